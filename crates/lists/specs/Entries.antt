@@ -1,0 +1,98 @@
+-- Laws of `all`, `sum` and `listOf`.
+use mathlib.Core.Path.{_≡_, refl, ap, ap₂, sym, _∙_}
+use mathlib.Core.Bool.{Bool, true, false, _&&_}
+use mathlib.Core.List.{List, [], _∷_, _++_, append-assoc, append-nil}
+use mathlib.Core.Logic.{⊎-elim}
+use Prim.Native.Nat.{ℕ, zero, suc, _+_, _≤_, _<_}
+use native.Mathlib.Nat.{eq-or-lt-of-le, le-of-suc-le-suc, le-refl, le-trans, le-suc}
+use native.Mathlib.Numerals.{add-one}
+use native.Mathlib.Omega.{arith}
+use lib.ListN.{length, drop, getD, set, length-append, drop-of-length-le, List·getD-append}
+use lib.Seq.{drop-cons, set-at, getD-append-seam, ext-getD}
+use lib.Dec.{T}
+use Rattle.lists.specs.Lists.{all, sum, listOf}
+use Rattle.lists.specs.Tests.{and-left, and-right, and-both}
+
+-- ALL
+
+both-false : (a : Bool) → a && false ≡ false
+both-false true = refl
+both-false false = refl
+
+pub all-none : (P : ℕ → Bool) → all P 0 ≡ true
+unfolding all
+all-none P = refl
+
+pub all-more : (P : ℕ → Bool) (i : ℕ) → all P i ≡ true → P i ≡ true → all P (i + 1) ≡ true
+unfolding all
+all-more P i h t = rw (add-one, h) t
+
+-- what all pass, each passes, and the other way round
+pub all-each : (P : ℕ → Bool) (n : ℕ) → T (all P n) → (i : ℕ) → i < n → T (P i)
+unfolding all
+all-each P zero t i l = absurd (omega arith)
+all-each P (suc n) t i l =
+    ⊎-elim (λ (e : i ≡ n). rw e (and-right (all P n) (P n) t)) (λ k. all-each P n (and-left (all P n) (P n) t) i k) (eq-or-lt-of-le (le-of-suc-le-suc l))
+
+pub each-all : (P : ℕ → Bool) (n : ℕ) → ((i : ℕ) → i < n → T (P i)) → T (all P n)
+unfolding all
+each-all P zero h = tt
+each-all P (suc n) h = and-both (all P n) (P n) (each-all P n (λ i l. h i (le-trans l (le-suc n)))) (h n (le-refl (suc n)))
+
+-- one that fails, and not all pass
+pub all-fails : (P : ℕ → Bool) (n i : ℕ) → i < n → P i ≡ false → all P n ≡ false
+unfolding all
+all-fails P zero i h t = absurd (omega arith)
+all-fails P (suc n) i h t =
+    ⊎-elim (λ (e : i ≡ n). rw (rw e at t) (both-false (all P n))) (λ l. rw (all-fails P n i l t) refl) (eq-or-lt-of-le (le-of-suc-le-suc h))
+
+-- SUM
+
+pub sum-more : (f : ℕ → ℕ) (n : ℕ) → sum f (n + 1) ≡ sum f n + f (n + 1)
+unfolding sum
+sum-more f n = rw add-one
+
+pub sum-same : (f g : ℕ → ℕ) (n : ℕ) → ((i : ℕ) → 1 ≤ i → i ≤ n → f i ≡ g i) → sum f n ≡ sum g n
+unfolding sum
+sum-same f g zero h = refl
+sum-same f g (suc n) h = ap₂ {C = ℕ} (λ a b. a + b) (sum-same f g n (λ i l u. h i l (le-trans u (le-suc n)))) (h (suc n) (omega arith) (le-refl (suc n)))
+
+-- LISTS BY AN INDEX FUNCTION
+
+module _ {ℓ} {A : Type ℓ} where
+  pub length-listOf : (f : ℕ → A) (n : ℕ) → length (listOf f n) ≡ n
+  unfolding listOf
+  length-listOf f zero = refl
+  length-listOf f (suc n) = length-append (listOf f n) (f n ∷ []) ∙ omega (arith, length-listOf f n)
+
+  pub getD-listOf : (f : ℕ → A) (n i : ℕ) (z : A) → i < n → getD (listOf f n) i z ≡ f i
+  unfolding listOf
+  getD-listOf f zero i z h = absurd (omega arith)
+  getD-listOf f (suc n) i z h =
+      ⊎-elim (λ (e : i ≡ n). rw e (rw length-listOf at (getD-append-seam (listOf f n) (f n) [] z)))
+      (λ (l : i < n). List·getD-append (listOf f n) (f n ∷ []) z i (omega (arith, length-listOf f n)) ∙ getD-listOf f n i z l)
+      (eq-or-lt-of-le (le-of-suc-le-suc h))
+
+  pub listOf-same : (f g : ℕ → A) (n : ℕ) → ((i : ℕ) → i < n → f i ≡ g i) → listOf f n ≡ listOf g n
+  unfolding listOf
+  listOf-same f g zero h = refl
+  listOf-same f g (suc n) h = ap₂ {C = List A} (λ xs x. xs ++ (x ∷ [])) (listOf-same f g n (λ i l. h i (le-trans l (le-suc n)))) (h n (le-refl (suc n)))
+
+  -- a list of n entries is the list of its entries
+  pub listOf-getD : (l : List A) (n : ℕ) (z : A) → length l ≡ n → listOf (λ i. getD l i z) n ≡ l
+  listOf-getD l n z e =
+      ext-getD z (listOf (λ i. getD l i z) n) l (length-listOf (λ i. getD l i z) n ∙ sym e) (λ i h.
+      getD-listOf (λ i. getD l i z) n i z (omega (arith, length-listOf (λ i. getD l i z) n)))
+
+  pub listOf-none : (f : ℕ → A) (d : List A) → d ≡ listOf f 0 ++ drop 0 d
+  unfolding listOf
+  listOf-none f d = refl
+
+  -- one store of a loop that fills a list from the front
+  pub listOf-more : (f : ℕ → A) (i : ℕ) (d : List A) → i < length d → set (listOf f i ++ drop i d) i (f i) ≡ listOf f (i + 1) ++ drop (i + 1) d
+  unfolding listOf
+  listOf-more f i d h =
+      rw (add-one, drop-cons d i (f i) h, set-at (listOf f i) (getD d i (f i)) (drop (suc i) d) (f i) i (length-listOf f i), append-assoc) refl
+
+  pub listOf-done : (f : ℕ → A) (n : ℕ) (d : List A) → length d ≤ n → listOf f n ++ drop n d ≡ listOf f n
+  listOf-done f n d h = rw (drop-of-length-le d h) (append-nil (listOf f n))

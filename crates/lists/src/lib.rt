@@ -1,0 +1,1 @@
+// Definitions and laws on lists, rows and counts, in specs/. No code.

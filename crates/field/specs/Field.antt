@@ -1,8 +1,11 @@
 -- The definitions. Document 01, "Sizes of a wall": "The field is the whole numbers modulo 257", "A call on field values takes each
 -- 16-bit number modulo 257; 0 has the inverse 0".
 use Prim.Native.Nat.{ℕ, zero, suc, _+_, _-_, _*_, _%_}
-use mathlib.Core.Bool.{cond}
-use lib.Dec.{eqb}
+use mathlib.Core.Bool.{Bool, cond, _&&_}
+use mathlib.Core.List.{List}
+use lib.Dec.{eqb, ltb}
+use lib.ListN.{getD}
+use Rattle.lists.specs.Lists.{all}
 use Rattle.field.specs.declared.Field.{Field}
 
 abbrev pub of : ℕ → ℕ
@@ -25,6 +28,13 @@ inverseBelow x (suc y) = cond (eqb (multiply x y) 1) y (inverseBelow x y)
 
 unfoldable pub inverse : ℕ → ℕ
 inverse x = inverseBelow x 257
+
+-- "The inverses of 1 to 256 stand in one table: number times entry leaves 1 modulo 257." Entry k is the inverse of k + 1.
+unfoldable pub inverseEntry : List ℕ → ℕ → Bool
+inverseEntry table k = ltb (getD table k 0) 257 && eqb (multiply (k + 1) (getD table k 0)) 1
+
+unfoldable pub inverseTable : List ℕ → Bool
+inverseTable table = all (inverseEntry table) 256
 
 -- "Blank is 65535": a message value that is no number of the field
 abbrev pub blank : ℕ

@@ -1,14 +1,17 @@
 -- The laws of the field: those of a commutative ring, inverses, no zero divisors.
 use mathlib.Core.Path.{_≡_, refl, sym, ap, _∙_}
 use mathlib.Core.Logic.{_⊎_, inl, inr}
-use mathlib.Core.Bool.{Bool, true, false, cond}
+use mathlib.Core.Bool.{Bool, true, false, cond, _&&_}
+use mathlib.Core.List.{List}
 use Prim.Native.Nat.{ℕ, zero, suc, _+_, _-_, _*_, _/_, _%_, _≤_, _<_}
 use native.Mathlib.Nat.{mod-lt, mod-eq-of-lt, eq-zero-or-pos, mul-comm, mul-assoc}
 use native.Mathlib.Omega.{arith}
-use lib.Dec.{T, eqb, eqb→eq, lit<}
+use lib.Dec.{T, eqb, ltb, eqb→eq, ltb→lt, lit<}
+use lib.ListN.{getD}
 use Rattle.lists.specs.Lists.{all}
 use Rattle.lists.specs.Entries.{all-each}
-use Rattle.field.specs.Field.{of, add, subtract, multiply, inverse, inverseBelow}
+use Rattle.lists.specs.Tests.{and-left, and-right, passes}
+use Rattle.field.specs.Field.{of, add, subtract, multiply, inverse, inverseBelow, inverseEntry, inverseTable}
 use Rattle.field.specs.Congruence.{_≋_, with-multiples, by-multiples, reduce, scale, times}
 
 -- A COMMUTATIVE RING
@@ -110,6 +113,16 @@ inverse-unique x y l h =
     -- times a number that leaves 1
     once : (a b : ℕ) → of b ≡ 1 → a * b ≋ a
     once a b e = scale a b 1 e ∙ multiply-one a
+
+-- an entry of the table is the inverse of its number
+pub table-entry : (table : List ℕ) → inverseTable table ≡ true → (x : ℕ) → 0 < x → x < 257 → getD table (x - 1) 0 ≡ inverse x
+unfolding inverseTable inverseEntry
+table-entry table h x p l =
+    let e : x - 1 + 1 ≡ x = omega arith in
+    let y : ℕ = getD table (x - 1) 0 in
+    let t : T (ltb y 257 && eqb (multiply (x - 1 + 1) y) 1) = all-each (inverseEntry table) 256 (passes (all (inverseEntry table) 256) h) (x - 1) (omega arith) in
+    inverse-unique x y (ltb→lt y 257 (and-left (ltb y 257) (eqb (multiply (x - 1 + 1) y) 1) t))
+    (ap (λ (z : ℕ). multiply z y) (sym e) ∙ eqb→eq (multiply (x - 1 + 1) y) 1 (and-right (ltb y 257) (eqb (multiply (x - 1 + 1) y) 1) t))
 
 -- a number that is not 0 can be cancelled
 pub cancel : (e a b : ℕ) → 0 < e → e < 257 → e * a ≋ e * b → a ≋ b

@@ -1,6 +1,7 @@
 // The field of the wall: the whole numbers modulo 257.
 ghost use mathlib.Core.Path.{_≡_};
-ghost use Rattle.field.specs.Field.{element, of, add, subtract, multiply, inverse};
+ghost use mathlib.Core.Bool.{true};
+ghost use Rattle.field.specs.Field.{element, of, add, subtract, multiply, inverse, inverseTable};
 
 // The inverses of 1 to 256, at 0 to 255: number times entry leaves 1 modulo 257.
 const INVERSES: [u16; 256] = [
@@ -262,6 +263,13 @@ const INVERSES: [u16; 256] = [
     256,
 ];
 
+// The table, with its rule.
+fn inverses() -> [u16; 256]
+    ensures { λ r. ⌜ inverseTable r ≡ true ⌝ }
+{
+    INVERSES
+}
+
 // A number of the field. Each call takes any 16-bit number modulo 257, and what it gives is below 257.
 pub struct Field(pub u16);
 
@@ -309,6 +317,7 @@ impl Field {
         if k == 0 {
             return Field(0);
         }
-        Field(INVERSES[k - 1])
+        let table = inverses();
+        Field(table[k - 1])
     }
 }

@@ -1,0 +1,177 @@
+-- The laws of the sizes.
+use mathlib.Core.Path.{_≡_, refl, ap, ap₂, sym, _∙_}
+use mathlib.Core.Bool.{Bool, true, false, cond, _||_, true≢false}
+use mathlib.Core.Logic.{_⊎_, inl, inr}
+use Prim.Native.Nat.{ℕ, zero, suc, _+_, _-_, _*_, _/_, _≤_, _<_}
+use native.Mathlib.Nat.{eq-zero-or-pos, div-mul-le-self, div-eq-of-lt, le-div-iff-mul-le, lt-div-mul-add, div-le-of-le-mul, mul-le-mul-left}
+use native.Mathlib.Numerals.{add-one}
+use native.Mathlib.Omega.{arith}
+use borrow.Author.Tests.{ltb-false, lt-ltb, le-ltb, le-leb, lt-leb, eq-eqb, ne-eqb}
+use lib.Dec.{eqb, ltb, leb}
+use Rattle.lists.specs.Lists.{sum}
+use Rattle.lists.specs.Entries.{sum-more}
+use Rattle.sizes.specs.Sizes.{faults, degree, blocks, rounds, values, line, outside, refusal}
+
+-- BOUNDS OF ANY SIZES, IN RANGE OR NOT
+
+pub faults-le : (n : ℕ) → faults n ≤ n
+unfolding faults
+faults-le n = omega arith
+
+pub degree-le : (n : ℕ) → degree n ≤ n
+unfolding degree
+degree-le n = omega (arith, faults-le n)
+
+pub blocks-le : (n m : ℕ) → blocks n m ≤ m
+unfolding blocks
+blocks-le n m = go (eq-zero-or-pos m)
+  where
+    go : (m ≡ 0) ⊎ (0 < m) → (m + degree n) / (degree n + 1) ≤ m
+    go (inl z) = omega (arith, div-eq-of-lt {n = m + degree n} {m = degree n + 1} (omega arith))
+    go (inr p) = div-le-of-le-mul (degree n + 1) (omega (arith, mul-le-mul-left (degree n) p))
+
+-- THE SIZES OF A WALL
+
+-- n columns and records of m bytes
+pub record InRange (n m : ℕ) : Type 0 where
+  pub columns-low : 4 ≤ n
+  pub columns-high : n ≤ 31
+  pub bytes-low : 1 ≤ m
+  pub bytes-high : m ≤ 32
+
+-- t, d and B of a wall
+pub record Sized (n m : ℕ) : Type 0 where
+  -- t is the greatest number of which three are fewer than n
+  pub faults-few : 3 * faults n < n
+  pub faults-most : n ≤ 3 * faults n + 3
+  pub faults-low : 1 ≤ faults n
+  pub faults-high : faults n ≤ 10
+  -- d is the greatest number of which three are at most t
+  pub degree-few : 3 * degree n ≤ faults n
+  pub degree-most : faults n ≤ 3 * degree n + 2
+  pub degree-high : degree n ≤ 3
+  -- two polynomials that each meet n - t points share more than d
+  pub room : degree n + 2 * faults n < n
+  -- B is the least number of blocks that hold m bytes
+  pub blocks-enough : m ≤ blocks n m * (degree n + 1)
+  pub blocks-least : blocks n m * (degree n + 1) < m + degree n + 1
+  pub blocks-low : 1 ≤ blocks n m
+  pub blocks-high : blocks n m ≤ m
+  pub rounds-is : rounds n ≡ 3 * faults n + 8
+  pub line-is : line n m ≡ 4 * blocks n m + 3 * faults n + 5
+
+pub sized : (n m : ℕ) → InRange n m → Sized n m
+unfolding faults degree blocks rounds line
+sized n m r =
+    let enough : m < (m + degree n) / (degree n + 1) * (degree n + 1) + 1 = omega (arith, lt-div-mul-add {a = m + degree n} {b = degree n + 1} (omega arith)) in
+    record {
+      faults-few = omega arith;
+      faults-most = omega arith;
+      faults-low = omega arith;
+      faults-high = omega arith;
+      degree-few = omega arith;
+      degree-most = omega arith;
+      degree-high = omega arith;
+      room = omega arith;
+      blocks-enough = omega arith;
+      blocks-least = omega (arith, div-mul-le-self (m + degree n) (degree n + 1));
+      blocks-low = le-div-iff-mul-le {k = degree n + 1} {x = 1} {y = m + degree n} (omega arith) .1 (omega arith);
+      blocks-high = blocks-le n m;
+      rounds-is = refl;
+      line-is = refl;
+    }
+
+-- THE VALUES OF A ROUND
+
+module _ (n m round : ℕ) where
+  pub values-before : round ≡ 0 → values n m round ≡ 0
+  unfolding values
+  values-before e = simp (eq-eqb round 0 e)
+
+  pub values-exchange : round ≡ 1 → values n m round ≡ 2 * blocks n m
+  unfolding values
+  values-exchange e = rw e
+
+  pub values-one : 1 < round → round + 2 ≤ rounds n → values n m round ≡ 1
+  unfolding values
+  values-one l h = simp (ne-eqb round 0 (omega arith), ne-eqb round 1 (omega arith), le-leb (round + 2) (rounds n) h)
+
+  pub values-blocks : 1 < round → rounds n < round + 2 → round ≤ rounds n → values n m round ≡ blocks n m
+  unfolding values
+  values-blocks l g h =
+      simp (ne-eqb round 0 (omega arith), ne-eqb round 1 (omega arith), lt-leb (round + 2) (rounds n) g, le-leb round (rounds n) h)
+
+  pub values-after : rounds n < round → values n m round ≡ 0
+  unfolding values rounds
+  values-after h =
+      simp (ne-eqb round 0 (omega arith), ne-eqb round 1 (omega arith), lt-leb (round + 2) (rounds n) (omega arith), lt-leb round (rounds n) h)
+
+-- the values of the exchange and of k rounds of one value
+values-first : (n m k : ℕ) → k + 3 ≤ rounds n → sum (values n m) (k + 1) ≡ 2 * blocks n m + k
+unfolding sum
+values-first n m zero h = rw (values-exchange n m 1 refl) (omega arith)
+values-first n m (suc k) h =
+    let e : suc k + 1 ≡ suc (k + 1) = omega arith in
+    rw e (omega (arith, values-first n m k (omega arith), values-one n m (suc (k + 1)) (omega arith) (omega arith)))
+
+-- "the values of all rounds in order, 4B + 3t + 5 of them"
+pub values-all : (n m : ℕ) → sum (values n m) (rounds n) ≡ line n m
+unfolding rounds line
+values-all n m =
+    let k = 3 * faults n + 5 in
+    let e : rounds n ≡ k + 1 + 1 + 1 = omega arith in
+    rw e (omega (
+      arith,
+      sum-more (values n m) (k + 1 + 1),
+      sum-more (values n m) (k + 1),
+      values-first n m k (omega arith),
+      values-blocks n m (k + 1 + 1) (omega arith) (omega arith) (omega arith),
+      values-blocks n m (k + 1 + 1 + 1) (omega arith) (omega arith) (omega arith),
+    ))
+
+-- REFUSALS
+
+-- a wall and a column number that nothing refuses
+pub record Accepted (n m number : ℕ) : Type 0 where
+  pub range : InRange n m
+  pub number-low : 1 ≤ number
+  pub number-high : number ≤ n
+
+inside : (low high x : ℕ) → outside low high x ≡ false → (low ≤ x) × (x ≤ high)
+unfolding outside
+inside low high x = go (ltb x low) refl
+  where
+    go : (b : Bool) → ltb x low ≡ b → b || ltb high x ≡ false → (low ≤ x) × (x ≤ high)
+    go true e h = absurd (true≢false h)
+    go false e h = (ltb-false x low e, ltb-false high x h)
+
+not-outside : (low high x : ℕ) → low ≤ x → x ≤ high → outside low high x ≡ false
+unfolding outside
+not-outside low high x l h = simp (le-ltb x low l, le-ltb high x h)
+
+pub accepted : (n m number : ℕ) → refusal n m number ≡ 0 → Accepted n m number
+unfolding refusal
+accepted n m number = go (outside 4 31 n) (outside 1 32 m) (outside 1 n number) refl refl refl
+  where
+    go : (a b c : Bool) → outside 4 31 n ≡ a → outside 1 32 m ≡ b → outside 1 n number ≡ c → _≡_ {A = ℕ} (cond a 1 (cond b 2 (cond c 3 0))) 0 → Accepted n m number
+    go true b c ea eb ec h = absurd (omega arith)
+    go false true c ea eb ec h = absurd (omega arith)
+    go false false true ea eb ec h = absurd (omega arith)
+    go false false false ea eb ec h =
+        let i = inside 4 31 n ea in
+        let j = inside 1 32 m eb in
+        let k = inside 1 n number ec in
+        record {
+          range = record { columns-low = i .0; columns-high = i .1; bytes-low = j .0; bytes-high = j .1 };
+          number-low = k .0;
+          number-high = k .1;
+        }
+
+pub not-refused : (n m number : ℕ) → Accepted n m number → refusal n m number ≡ 0
+unfolding refusal
+not-refused n m number a =
+    simp (
+      not-outside 4 31 n (a .range .columns-low) (a .range .columns-high),
+      not-outside 1 32 m (a .range .bytes-low) (a .range .bytes-high),
+      not-outside 1 n number (a .number-low) (a .number-high),
+    )

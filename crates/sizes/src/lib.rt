@@ -1,0 +1,90 @@
+// The sizes of a wall: of n columns and records of m bytes, how many columns may be unsound, the greatest degree of a block, the
+// blocks of a record, the rounds of a run and the values of its messages. Each answers every byte; `refusal` says which are no sizes.
+ghost use mathlib.Core.Path.{_≡_};
+ghost use Rattle.sizes.specs.Sizes.{faults as faultsOf, degree as degreeOf, blocks as blocksOf, rounds as roundsOf, values as valuesOf, line as lineOf, outside as outsideOf, refusal as refusalOf};
+
+fn outside(low: u8, high: u8, x: u8) -> bool
+    ensures { λ r. ⌜ r ≡ outsideOf low high x ⌝ }
+{
+    if x < low {
+        return true;
+    }
+    high < x
+}
+
+// The refusal of n columns, m bytes and a column number: 1, 2, 3, or 0 for none.
+pub fn refusal(n: u8, m: u8, number: u8) -> u8
+    ensures { λ r. ⌜ r ≡ refusalOf n m number ⌝ }
+{
+    if outside(4, 31, n) {
+        return 1;
+    }
+    if outside(1, 32, m) {
+        return 2;
+    }
+    if outside(1, n, number) {
+        return 3;
+    }
+    0
+}
+
+// t: how many of n columns may be unsound.
+pub fn faults(n: u8) -> usize
+    ensures { λ r. ⌜ r ≡ faultsOf n ⌝ }
+{
+    if n == 0 {
+        return 0;
+    }
+    ((n - 1) / 3) as usize
+}
+
+// d: the greatest degree of a block.
+pub fn degree(n: u8) -> usize
+    ensures { λ r. ⌜ r ≡ degreeOf n ⌝ }
+{
+    faults(n) / 3
+}
+
+// B: how many blocks a record of m bytes is cut into.
+pub fn blocks(n: u8, m: u8) -> usize
+    ensures { λ r. ⌜ r ≡ blocksOf n m ⌝ }
+{
+    let d = degree(n);
+    (m as usize + d) / (d + 1)
+}
+
+// The rounds of a run.
+pub fn rounds(n: u8) -> usize
+    ensures { λ r. ⌜ r ≡ roundsOf n ⌝ }
+{
+    3 * faults(n) + 8
+}
+
+// The values of one message in a round; none in a round that a run does not have.
+pub fn values(n: u8, m: u8, round: u8) -> usize
+    ensures { λ r. ⌜ r ≡ valuesOf n m round ⌝ }
+{
+    let b = blocks(n, m);
+    let last = rounds(n);
+    let at = round as usize;
+    if at == 0 {
+        return 0;
+    }
+    if at == 1 {
+        return 2 * b;
+    }
+    if at + 2 <= last {
+        return 1;
+    }
+    if at <= last {
+        return b;
+    }
+    0
+}
+
+// The values of all rounds that an unsound column sends one receiver.
+pub fn line(n: u8, m: u8) -> usize
+    ensures { λ r. ⌜ r ≡ lineOf n m ⌝ }
+{
+    4 * blocks(n, m) + 3 * faults(n) + 5
+}

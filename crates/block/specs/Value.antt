@@ -23,16 +23,16 @@ value-cons c cs x = omega arith
 
 -- PARTS
 
-pub length-part : (bytes : List ℕ) (from count : ℕ) → length (part bytes from count) ≡ count
-unfolding part
-length-part bytes from zero = refl
-length-part bytes from (suc count) = ap suc (length-part bytes (suc from) count)
-
 pub getD-part : (bytes : List ℕ) (from count i : ℕ) → i < count → getD (part bytes from count) i 0 ≡ getD bytes (from + i) 0
 unfolding part
 getD-part bytes from zero i h = absurd (omega arith)
 getD-part bytes from (suc count) zero h = rw add-zero
 getD-part bytes from (suc count) (suc i) h = rw (add-suc, ← suc-add) (getD-part bytes (suc from) count i (le-of-suc-le-suc h))
+
+pub length-part : (bytes : List ℕ) (from count : ℕ) → length (part bytes from count) ≡ count
+unfolding part
+length-part bytes from zero = refl
+length-part bytes from (suc count) = ap suc (length-part bytes (suc from) count)
 
 -- bytes stay bytes
 pub below-part : (b : ℕ) (bytes : List ℕ) (from count : ℕ) → 0 < b → Below b bytes → Below b (part bytes from count)

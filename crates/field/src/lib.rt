@@ -3,6 +3,9 @@ ghost use mathlib.Core.Path.{_≡_};
 ghost use mathlib.Core.Bool.{true};
 ghost use Rattle.field.specs.Field.{element, of, add, subtract, multiply, inverse, inverseTable};
 
+// The modulus where sums and products are made.
+const WIDE: u32 = 257;
+
 // The inverses of 1 to 256, at 0 to 255: number times entry leaves 1 modulo 257.
 const INVERSES: [u16; 256] = [
     1,
@@ -281,39 +284,39 @@ impl Field {
     pub fn of(x: u16) -> Field
         ensures { λ r. ⌜ r ≡ element (of x) ⌝ }
     {
-        Field(x % 257)
+        Field(x % Self::MODULUS)
     }
 
     pub fn add(a: Field, b: Field) -> Field
         ensures { λ r. ⌜ r ≡ element (add (a .0) (b .0)) ⌝ }
     {
-        Field(((a.0 as u32 + b.0 as u32) % 257) as u16)
+        Field(((a.0 as u32 + b.0 as u32) % WIDE) as u16)
     }
 
     pub fn subtract(a: Field, b: Field) -> Field
         ensures { λ r. ⌜ r ≡ element (subtract (a .0) (b .0)) ⌝ }
     {
-        Field(((a.0 as u32 + (257 - (b.0 % 257) as u32)) % 257) as u16)
+        Field(((a.0 as u32 + (WIDE - (b.0 % Self::MODULUS) as u32)) % WIDE) as u16)
     }
 
     pub fn multiply(a: Field, b: Field) -> Field
         ensures { λ r. ⌜ r ≡ element (multiply (a .0) (b .0)) ⌝ }
     {
-        Field(((a.0 as u32 * b.0 as u32) % 257) as u16)
+        Field(((a.0 as u32 * b.0 as u32) % WIDE) as u16)
     }
 
     // a plus b times c, with one division.
     pub fn add_product(a: Field, b: Field, c: Field) -> Field
         ensures { λ r. ⌜ r ≡ element (add (a .0) (multiply (b .0) (c .0))) ⌝ }
     {
-        Field(((a.0 as u32 + b.0 as u32 * c.0 as u32) % 257) as u16)
+        Field(((a.0 as u32 + b.0 as u32 * c.0 as u32) % WIDE) as u16)
     }
 
     // The number that times a leaves 1; 0 for 0.
     pub fn inverse(a: Field) -> Field
         ensures { λ r. ⌜ r ≡ element (inverse (a .0)) ⌝ }
     {
-        let k = (a.0 % 257) as usize;
+        let k = (a.0 % Self::MODULUS) as usize;
         if k == 0 {
             return Field(0);
         }

@@ -6,11 +6,12 @@ use mathlib.Core.Logic.{⊎-elim}
 use Prim.Native.Nat.{ℕ, zero, suc, _+_, _≤_, _<_}
 use native.Mathlib.Nat.{eq-or-lt-of-le, le-of-suc-le-suc, le-refl, le-trans, le-suc}
 use native.Mathlib.Numerals.{add-one}
+use native.Mathlib.Decide.{decLt}
 use native.Mathlib.Omega.{arith}
-use lib.ListN.{length, drop, getD, set, length-append, drop-of-length-le, List·getD-append}
+use lib.ListN.{length, drop, getD, set, length-append, drop-of-length-le, List·getD-append, List·getD-eq-default}
 use lib.Seq.{drop-cons, set-at, getD-append-seam, ext-getD}
 use lib.Dec.{T}
-use Rattle.lists.specs.Lists.{all, sum, listOf}
+use Rattle.lists.specs.Lists.{all, sum, Below, listOf}
 use Rattle.lists.specs.Tests.{and-left, and-right, and-both}
 
 -- ALL
@@ -96,3 +97,11 @@ module _ {ℓ} {A : Type ℓ} where
 
   pub listOf-done : (f : ℕ → A) (n : ℕ) (d : List A) → length d ≤ n → listOf f n ++ drop n d ≡ listOf f n
   listOf-done f n d h = rw (drop-of-length-le d h) (append-nil (listOf f n))
+
+-- a list of small entries
+pub below-listOf : (b : ℕ) (f : ℕ → ℕ) (n : ℕ) → 0 < b → ((i : ℕ) → f i < b) → Below b (listOf f n)
+below-listOf b f n p h i = go (decLt i n)
+  where
+    go : Dec (i < n) → getD (listOf f n) i 0 < b
+    go (yes l) = rw (getD-listOf f n i 0 l) (h i)
+    go (no l) = rw (List·getD-eq-default (listOf f n) 0 {n = i} (omega (arith, length-listOf f n))) p

@@ -1,0 +1,5 @@
+-- Where the wrong points are: an error locator by its values at the places (Welch and Berlekamp, in Koetter's form).
+-- Locator: the definition, which the code computes. Steps, Located: why it locates.
+pub mod Locator
+pub mod Steps
+pub mod Located

@@ -1,8 +1,6 @@
 // The field of the wall: the whole numbers modulo 257.
 ghost use mathlib.Core.Path.{_≡_};
 ghost use mathlib.Core.Bool.{true};
-ghost use Prim.Native.Nat.{_+_, _%_, _<_, _≤_};
-ghost use Rattle.field.specs.Congruence.{_≋_};
 ghost use Rattle.field.specs.Field.{element, of, add, subtract, multiply, inverse, inverseTable};
 
 // The modulus where sums and products are made.
@@ -275,31 +273,6 @@ fn inverses() -> [u16; 256]
     INVERSES
 }
 
-// s modulo m, for a number below twice m.
-fn less(s: u16, m: u16) -> u16
-    requires { ⌜ s < m + m ⌝ }
-    ensures { λ r. ⌜ r ≡ s % m ⌝ }
-{
-    if s < m {
-        return s;
-    }
-    s - m
-}
-
-// A small number that is z modulo 257: 256 leaves -1.
-fn near(z: u16) -> u16
-    ensures { λ r. ⌜ (r ≤ 512) × (r ≋ z) ⌝ }
-{
-    z % 256 + 257 - z / 256
-}
-
-// A small number that is x modulo 257: 65536 leaves 1.
-fn folded(x: u32) -> u16
-    ensures { λ r. ⌜ (r ≤ 1024) × (r ≋ x) ⌝ }
-{
-    near((x % 65536) as u16) + near((x / 65536) as u16)
-}
-
 // A number of the field. Each call takes any 16-bit number modulo 257, and what it gives is below 257.
 pub struct Field(pub u16);
 
@@ -337,14 +310,6 @@ impl Field {
         ensures { λ r. ⌜ r ≡ element (add (a .0) (multiply (b .0) (c .0))) ⌝ }
     {
         Field(((a.0 as u32 + b.0 as u32 * c.0 as u32) % WIDE) as u16)
-    }
-
-    // a times b plus c times d, without a division: of arrays, several at a time.
-    pub fn dot(a: Field, b: Field, c: Field, d: Field) -> Field
-        ensures { λ r. ⌜ r ≡ element (add (multiply (a .0) (b .0)) (multiply (c .0) (d .0))) ⌝ }
-    {
-        let sum = folded(a.0 as u32 * b.0 as u32) + folded(c.0 as u32 * d.0 as u32);
-        Field(less(less(less(sum, 1028), 514), 257))
     }
 
     // The number that times a leaves 1; 0 for 0.

@@ -79,6 +79,12 @@ module _ {ℓ} {A : Type ℓ} where
   listOf-same f g zero h = refl
   listOf-same f g (suc n) h = ap₂ {C = List A} (λ xs x. xs ++ (x ∷ [])) (listOf-same f g n (λ i l. h i (le-trans l (le-suc n)))) (h n (le-refl (suc n)))
 
+  -- within the list no default is read
+  pub getD-within : (l : List A) (i : ℕ) (a b : A) → i < length l → getD l i a ≡ getD l i b
+  getD-within [] i a b h = absurd (omega arith)
+  getD-within (x ∷ l) zero a b h = refl
+  getD-within (x ∷ l) (suc i) a b h = getD-within l i a b (le-of-suc-le-suc h)
+
   -- a list of n entries is the list of its entries
   pub listOf-getD : (l : List A) (n : ℕ) (z : A) → length l ≡ n → listOf (λ i. getD l i z) n ≡ l
   listOf-getD l n z e =

@@ -6,19 +6,20 @@ use mathlib.Core.Logic.{_⊎_, inl, inr, ⊎-elim}
 use mathlib.Core.Bool.{Bool, true, false, cond, not, _&&_, _||_}
 use mathlib.Core.List.{List, [], _∷_}
 use Prim.Native.Nat.{ℕ, zero, suc, _+_, _-_, _*_, _%_, _≤_, _<_}
-use native.Mathlib.Nat.{mod-lt, eq-or-lt-of-le, le-of-suc-le-suc}
+use native.Mathlib.Nat.{eq-or-lt-of-le, le-of-suc-le-suc}
 use native.Mathlib.Numerals.{add-one}
 use native.Mathlib.Decide.{decLt}
 use native.Mathlib.Omega.{arith}
 use borrow.Author.Tests.{leb-true, leb-false, eqb-true, eqb-false, lt-ltb, le-ltb}
 use lib.Dec.{eqb, leb, ltb, lit<}
 use lib.ListN.{length, getD, List·getD-eq-default}
-use Rattle.lists.specs.Lists.{Below, listOf}
-use Rattle.lists.specs.Entries.{getD-listOf, below-listOf}
+use Rattle.lists.specs.Lists.{listOf}
+use Rattle.lists.specs.Entries.{getD-listOf}
 use Rattle.field.specs.Field.{of, subtract, multiply, blank}
 use Rattle.field.specs.Congruence.{_≋_}
 use Rattle.block.specs.Block.{value}
 use Rattle.locator.specs.Locator.{pointAt, discrepancy, Run, oneAt, pointsAt, start, firstLeads, secondLeads, turn, run, lighter, located}
+use Rattle.locator.specs.Held.{Held, held-one, held-points}
 use Rattle.locator.specs.Steps.{Pair, Apart, Free, Cleared, raised-pair, cleared-pair, turned-apart}
 
 -- both pairs after the first j places
@@ -30,10 +31,6 @@ pub record Good (w n : ℕ) (points : List ℕ) (s : Run) (j : ℕ) : Type 0 whe
   pub all-weights : s .first-weight + s .second-weight ≤ w + n
 
 -- THE START
-
-either-lt : (b : Bool) (x y k : ℕ) → x < k → y < k → cond b x y < k
-either-lt true x y k h g = h
-either-lt false x y k h g = g
 
 constant : (x : ℕ) → value (1 ∷ []) x ≡ 1
 unfolding value
@@ -59,13 +56,13 @@ module _ (i : ℕ) (h : i < 32) where
       getD-listOf (pointsAt points) 64 (32 + i) 0 (omega arith) ∙ simp (le-ltb (32 + i) 32 (omega arith), e)
 
 start-good : (w n : ℕ) (points : List ℕ) → Good w n points (start w points) 0
-unfolding start oneAt pointsAt Apart value
+unfolding start Apart value
 start-good w n points =
     record {
       one = record {
         e = [];
         q = 1 ∷ [];
-        small = ones;
+        small = held-one .small;
         e-values = one-e;
         d-values = λ i h. rw (one-d i h) (omega arith);
         fitted = λ i h. absurd (omega arith);
@@ -75,7 +72,7 @@ start-good w n points =
       two = record {
         e = 1 ∷ [];
         q = [];
-        small = negated;
+        small = held-points points .small;
         e-values = λ i h. two-e i h points ∙ sym (constant (i + 1));
         d-values = λ i h. rw (two-d i h points, constant (i + 1)) (omega arith);
         fitted = λ i h. absurd (omega arith);
@@ -86,12 +83,6 @@ start-good w n points =
       weights = omega arith;
       all-weights = omega arith;
     }
-  where
-    ones : Below 257 (listOf oneAt 64)
-    ones = below-listOf 257 oneAt 64 (lit< tt) (λ i. either-lt (ltb i 32) 0 1 257 (lit< tt) (lit< tt))
-
-    negated : Below 257 (listOf (pointsAt points) 64)
-    negated = below-listOf 257 (pointsAt points) 64 (lit< tt) (λ i. either-lt (ltb i 32) 1 (subtract 0 (pointAt points (i - 32))) 257 (lit< tt) (mod-lt (0 + (257 - pointAt points (i - 32) % 257)) (lit< tt)))
 
 -- A TURN
 

@@ -9,13 +9,14 @@ use native.Mathlib.Omega.{arith}
 use lib.Dec.{lit<}
 use lib.ListN.{length, getD, List·getD-eq-default}
 use Rattle.lists.specs.Lists.{Below, listOf}
-use Rattle.lists.specs.Entries.{getD-listOf, below-listOf}
+use Rattle.lists.specs.Entries.{getD-listOf}
 use Rattle.field.specs.Field.{of, add, subtract, multiply}
 use Rattle.field.specs.Congruence.{_≋_, with-multiples, by-multiples, reduce, plus, scale, times, products}
 use Rattle.field.specs.Laws.{cancel}
 use Rattle.block.specs.Block.{value}
 use Rattle.block.specs.Value.{value-lt}
 use Rattle.block.specs.Algebra.{sum, scale as scaled, raised as raisedBy, value-sum, value-scale, value-raised, length-sum, length-scale, length-raised, length-raised-none}
+use Rattle.locator.specs.Held.{Held, held-cleared, held-raised}
 use Rattle.locator.specs.Locator.{pointAt, discrepancy, mixedAt, cleared, raisedAt, raised}
 
 -- ARITHMETIC
@@ -113,21 +114,17 @@ module _ (r : ℕ) (l : List ℕ) (low : 1 ≤ r) (high : r ≤ 32) where
       rw (getD-listOf (raisedAt r l) 64 i 0 h, e)
       (reduce (subtract (k + 1) r * getD l i 0) ∙ times (subtract (k + 1) r) (k + 1 + (257 - r)) (getD l i 0) (getD l i 0) (factor (k + 1)) refl)
 
-  raised-small : Below 257 (raised r l)
-  unfolding raised raisedAt
-  raised-small = below-listOf 257 (raisedAt r l) 64 (lit< tt) (λ i. mod-lt (subtract (i % 32 + 1) r * getD l i 0) (lit< tt))
-
   -- its own place is fitted, and what was fitted stays so
   raised-own : (i : ℕ) → i < 32 → i + 1 ≡ r → discrepancy (raised r l) i ≡ 0
   raised-own i h e =
       let f : i + 1 + (257 - r) ≡ 257 = omega arith in
       let g : 257 * discrepancy l i ≋ 0 = omega arith in
-      exact (raised-small (32 + i)) (lit< tt) (raised-at (32 + i) i (omega arith) (omega arith) ∙ ap (λ (z : ℕ). of (z * discrepancy l i)) f ∙ g)
+      exact (held-raised r l .small (32 + i)) (lit< tt) (raised-at (32 + i) i (omega arith) (omega arith) ∙ ap (λ (z : ℕ). of (z * discrepancy l i)) f ∙ g)
 
   raised-zero : (i : ℕ) → i < 32 → discrepancy l i ≡ 0 → discrepancy (raised r l) i ≡ 0
   raised-zero i h z =
       let g : (i + 1 + (257 - r)) * 0 ≋ 0 = omega arith in
-      exact (raised-small (32 + i)) (lit< tt) (raised-at (32 + i) i (omega arith) (omega arith) ∙ ap (λ (d : ℕ). of ((i + 1 + (257 - r)) * d)) z ∙ g)
+      exact (held-raised r l .small (32 + i)) (lit< tt) (raised-at (32 + i) i (omega arith) (omega arith) ∙ ap (λ (d : ℕ). of ((i + 1 + (257 - r)) * d)) z ∙ g)
 
 -- the pair that leads at index j
 pub raised-pair : (w : ℕ) (points l : List ℕ) (weight j : ℕ) → j < 32 → Pair w points l weight j → Pair w points (raised (j + 1) l) (weight + 1) (suc j)
@@ -138,9 +135,9 @@ raised-pair w points l weight j h p =
     record {
       e = raisedBy r (p .e);
       q = raisedBy r (p .q);
-      small = raised-small r l low high;
+      small = held-raised r l .small;
       e-values = λ i b.
-          exact (raised-small r l low high i) (value-lt (raisedBy r (p .e)) (i + 1))
+          exact (held-raised r l .small i) (value-lt (raisedBy r (p .e)) (i + 1))
           (raised-at r l low high i i (omega arith) (omega arith) ∙ ap (λ (z : ℕ). of ((i + 1 + (257 - r)) * z)) (p .e-values i b)
           ∙ sym (value-raised r (p .e) (i + 1)));
       d-values = λ i b.
@@ -168,23 +165,17 @@ module _ (j : ℕ) (other lead : List ℕ) where
       let b : ℕ = subtract 0 (discrepancy other j) in
       rw (getD-listOf (mixedAt a b other lead) 64 i 0 h) (reduce (multiply a (getD other i 0) + multiply b (getD lead i 0)) ∙ products a (getD other i 0) b (getD lead i 0))
 
-  cleared-small : Below 257 (cleared j other lead)
-  unfolding cleared mixedAt
-  cleared-small =
-      below-listOf 257 (mixedAt (discrepancy lead j) (subtract 0 (discrepancy other j)) other lead) 64 (lit< tt)
-      (λ i. mod-lt (multiply (discrepancy lead j) (getD other i 0) + multiply (subtract 0 (discrepancy other j)) (getD lead i 0)) (lit< tt))
-
   -- its discrepancy at j is gone, and what both fitted both fit
   cleared-own : j < 32 → discrepancy (cleared j other lead) j ≡ 0
   cleared-own h =
-      exact (cleared-small (32 + j)) (lit< tt) (cleared-at (32 + j) (omega arith) ∙ cancelled (discrepancy lead j) (discrepancy other j))
+      exact (held-cleared j other lead .small (32 + j)) (lit< tt) (cleared-at (32 + j) (omega arith) ∙ cancelled (discrepancy lead j) (discrepancy other j))
 
   cleared-zero : (i : ℕ) → i < 32 → discrepancy other i ≡ 0 → discrepancy lead i ≡ 0 → discrepancy (cleared j other lead) i ≡ 0
   cleared-zero i h y z =
       let a : ℕ = discrepancy lead j in
       let b : ℕ = subtract 0 (discrepancy other j) in
       let g : a * 0 + b * 0 ≋ 0 = omega arith in
-      exact (cleared-small (32 + i)) (lit< tt) (cleared-at (32 + i) (omega arith) ∙ ap₂ {C = ℕ} (λ c d. of (a * c + b * d)) y z ∙ g)
+      exact (held-cleared j other lead .small (32 + i)) (lit< tt) (cleared-at (32 + i) (omega arith) ∙ ap₂ {C = ℕ} (λ c d. of (a * c + b * d)) y z ∙ g)
 
 -- the leading pair is the lighter, or the other needs nothing of it
 abbrev pub Free : ℕ → List ℕ → ℕ → ℕ → Type 0
@@ -212,9 +203,9 @@ cleared-pair w points other lead weight lead-weight j h p l free =
       pair = record {
         e = me .poly;
         q = mq .poly;
-        small = cleared-small j other lead;
+        small = held-cleared j other lead .small;
         e-values = λ i k.
-            exact (cleared-small j other lead i) (value-lt (me .poly) (i + 1))
+            exact (held-cleared j other lead .small i) (value-lt (me .poly) (i + 1))
             (cleared-at j other lead i (omega arith) ∙ ap₂ {C = ℕ} (λ x y. of (a * x + b * y)) (p .e-values i k) (l .e-values i k) ∙ sym (me .values (i + 1)));
         d-values = λ i k.
             fit-mixed a b (pointAt points i) (discrepancy other i) (value (p .e) (i + 1)) (value (p .q) (i + 1)) (discrepancy lead i) (value (l .e) (i + 1))

@@ -1,1 +1,200 @@
-// soon
+// An error locator for points of which some are wrong: the values, at the places, of a polynomial e that is 0 wherever a point is
+// wrong, if few enough are (Welch and Berlekamp's interpolation, in Koetter's form, without a division). specs/Locator.antt says how.
+use field::Field;
+ghost use mathlib.Core.Path.{_≡_};
+ghost use mathlib.Core.Bool.{Bool};
+ghost use Prim.Native.Nat.{ℕ, _+_, _%_, _<_, _≤_};
+ghost use lib.ListN.{getD};
+ghost use Rattle.lists.specs.Lists.{listOf};
+ghost use Rattle.locator.specs.Held.{Held, runOf};
+ghost use Rattle.field.specs.Field.{add, subtract, multiply};
+ghost use Rattle.field.specs.Congruence.{_≋_};
+ghost use Rattle.locator.specs.Locator.{Run, pointAt, oneAt, pointsAt, mixedAt, cleared, raisedAt, raised, leads as leadsOf, turn as turnOf, located};
+
+// How heavy the two pairs are.
+struct Weights {
+    first: u16,
+    second: u16,
+}
+
+// s modulo m, for a number below twice m.
+fn less(s: u16, m: u16) -> u16
+    requires { ⌜ s < m + m ⌝ }
+    ensures { λ r. ⌜ r ≡ s % m ⌝ }
+{
+    if s < m {
+        return s;
+    }
+    s - m
+}
+
+// A small number that is x modulo 257: 65536 leaves 1, and 256 leaves -1.
+fn near(x: u32) -> u16
+    requires { ⌜ x ≤ 65536 ⌝ }
+    ensures { λ r. ⌜ (r ≤ 513) × (r ≋ x) ⌝ }
+{
+    let low = (x % 65536) as u16;
+    let high = (x / 65536) as u16;
+    low % 256 + high + 257 - low / 256
+}
+
+// a times b plus c times d. Of numbers below 257 it takes no division, so that the machine does eight at a time.
+fn products(a: u16, b: u16, c: u16, d: u16) -> u16
+    requires { ⌜ (a < 257) × (b < 257) × (c < 257) × (d < 257) ⌝ }
+    ensures { λ r. ⌜ r ≡ add (multiply a b) (multiply c d) ⌝ }
+{
+    less(
+        less(near(a as u32 * b as u32) + near(c as u32 * d as u32), 514),
+        257,
+    )
+}
+
+fn point_at(points: &[u16], i: usize) -> u16
+    ensures { λ r. ⌜ r ≡ pointAt (now (points .entry)) i ⌝ }
+{
+    if i < points.len() {
+        return points[i];
+    }
+    Field::BLANK
+}
+
+fn one_at(i: usize) -> u16
+    ensures { λ r. ⌜ r ≡ oneAt i ⌝ }
+{
+    if i < 32 {
+        return 0;
+    }
+    1
+}
+
+// The pair e = 0, q = 1.
+fn one() -> [u16; 64]
+    ensures { λ r. ⌜ r ≡ listOf oneAt 64 ⌝ }
+{
+    let mut pair = [0u16; 64];
+    for i in 0..64 {
+        pair[i] = one_at(i);
+    }
+    pair
+}
+
+fn points_at(points: &[u16], i: usize) -> u16
+    ensures { λ r. ⌜ r ≡ pointsAt (now (points .entry)) i ⌝ }
+{
+    if i < 32 {
+        return 1;
+    }
+    let negated = Field::subtract(Field(0), Field(point_at(points, i - 32)));
+    negated.0
+}
+
+// The pair e = 1, q = 0.
+fn zero(points: &[u16]) -> [u16; 64]
+    ensures { λ r. ⌜ r ≡ listOf (pointsAt (now (points .entry))) 64 ⌝ }
+{
+    let mut pair = [0u16; 64];
+    for i in 0..64 {
+        pair[i] = points_at(points, i);
+    }
+    pair
+}
+
+// a times the other pair plus b times the leading one.
+fn mix(other: &mut [u16; 64], a: u16, b: u16, lead: &[u16; 64])
+    requires { ⌜ (a < 257) × (b < 257) × Held (now other) × Held (now lead) ⌝ }
+    ensures { λ _. ⌜ now (other .exit) ≡ listOf (mixedAt a b (now (other .entry)) (now (lead .entry))) 64 ⌝ }
+{
+    for i in 0..64 {
+        other[i] = products(a, other[i], b, lead[i]);
+    }
+}
+
+fn raised_at(minus: u16, i: usize, v: u16) -> u16
+    requires { ⌜ (225 ≤ minus) × (minus < 257) × (v < 257) ⌝ }
+    ensures { λ r. ⌜ r ≡ multiply ((i % 32 + 1 + minus) % 257) v ⌝ }
+{
+    products(less((i % 32 + 1) as u16 + minus, 257), v, 0, 0)
+}
+
+// The leading pair times (x - place).
+fn raise(lead: &mut [u16; 64], place: u16)
+    requires { ⌜ (1 ≤ place) × (place ≤ 32) × Held (now lead) ⌝ }
+    ensures { λ _. ⌜ now (lead .exit) ≡ raised place (now (lead .entry)) ⌝ }
+{
+    let minus = 257 - place;
+    for i in 0..64 {
+        lead[i] = raised_at(minus, i, lead[i]);
+    }
+}
+
+// The other pair, its discrepancy at index j taken away.
+fn clear(other: &mut [u16; 64], lead: &[u16; 64], j: usize)
+    requires { ⌜ (j < 32) × Held (now other) × Held (now lead) ⌝ }
+    ensures { λ _. ⌜ now (other .exit) ≡ cleared j (now (other .entry)) (now (lead .entry)) ⌝ }
+{
+    let a = lead[32 + j];
+    let b = Field::subtract(Field(0), Field(other[32 + j]));
+    mix(other, a, b.0, lead);
+}
+
+// Whether a pair with the discrepancy x and the weight v leads before one with y and w.
+fn leads(x: u16, y: u16, v: u16, w: u16) -> bool
+    ensures { λ r. ⌜ r ≡ leadsOf x y v w ⌝ }
+{
+    if x == 0 {
+        return false;
+    }
+    if y == 0 {
+        return true;
+    }
+    v <= w
+}
+
+// Both pairs are made to fit the point y at index j.
+fn turn(first: &mut [u16; 64], second: &mut [u16; 64], w: Weights, y: u16, j: usize) -> Weights
+    requires { ⌜ (j < 32) × (w .first < 1000) × (w .second < 1000) × Held (now first) × Held (now second) ⌝ }
+    ensures { λ r. ⌜ runOf (now (first .exit)) (now (second .exit)) r ≡ turnOf (runOf (now (first .entry)) (now (second .entry)) w) y j ⌝ }
+{
+    if 257 <= y {
+        return w;
+    }
+    let x = first[32 + j];
+    let z = second[32 + j];
+    if leads(x, z, w.first, w.second) {
+        clear(second, first, j);
+        raise(first, j as u16 + 1);
+        return Weights {
+            first: w.first + 1,
+            second: w.second,
+        };
+    }
+    if z == 0 {
+        return w;
+    }
+    clear(first, second, j);
+    raise(second, j as u16 + 1);
+    Weights {
+        first: w.first,
+        second: w.second + 1,
+    }
+}
+
+// The lighter pair after all places. `weight` is n - 2t - 1 for n points of which t may be wrong.
+pub fn locate(weight: u8, points: &[u16]) -> [u16; 64]
+    ensures { λ r. ⌜ r ≡ located weight (now (points .entry)) ⌝ }
+{
+    let mut first = one();
+    let mut second = zero(points);
+    let mut weights = Weights {
+        first: 0,
+        second: weight as u16,
+    };
+    for j in 0..32 {
+        let next = turn(&mut first, &mut second, weights, point_at(points, j), j);
+        weights = next;
+    }
+    if weights.first <= weights.second {
+        return first;
+    }
+    second
+}

@@ -2,8 +2,8 @@
 use mathlib.Core.Path.{sym, _∙_}
 use native.Mathlib.Nat.{mod-eq-of-lt, mod-eq-sub-mod}
 use native.Mathlib.Omega.{arith}
-use Rattle.field.proofs.less.Statement.{statement}
-use Rattle.field.proofs.less.Tie as tie
+use Rattle.locator.proofs.less.Statement.{statement}
+use Rattle.locator.proofs.less.Tie as tie
 
 returns : tie.Need-returns
 returns c = sym (mod-eq-of-lt (c .if1 .taken))

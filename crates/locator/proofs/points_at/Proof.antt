@@ -1,0 +1,29 @@
+-- `points_at` meets its contract.
+use mathlib.Core.Path.{ap, _∙_}
+use Prim.Native.Nat.{ℕ}
+use Rattle.field.specs.Field.{subtract}
+use Rattle.field.specs.declared.Field.{Field}
+use borrow.Author.Tests.{lt-ltb, le-ltb}
+use Rattle.locator.specs.Locator.{pointsAt}
+use borrow.Author.Needs.{needs}
+use Rattle.locator.proofs.points_at.Statement.{statement}
+use Rattle.locator.proofs.points_at.Tie as tie
+
+returns : tie.Need-returns
+unfolding pointsAt
+returns c = simp (lt-ltb _ _ (c .if1 .taken))
+
+point-at-requires : tie.Need-point-at-requires
+point-at-requires c κs = search needs
+
+subtract-requires : tie.Need-subtract-requires
+subtract-requires c κs = search needs
+
+returns-2 : tie.Need-returns-2
+unfolding pointsAt
+returns-2 c =
+    simp (le-ltb _ _ (c .before .before .if1 .left))
+    (ap (λ (f : Field). f .0) (c .subtract .ensures) ∙ ap (λ (z : ℕ). subtract 0 z) (c .before .point-at .ensures))
+
+pub points-at-spec : {M : Type 1} → statement M
+points-at-spec = tie.close (tie.spec returns point-at-requires subtract-requires returns-2)

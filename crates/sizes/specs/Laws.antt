@@ -175,3 +175,17 @@ not-refused n m number a =
       not-outside 1 32 m (a .range .bytes-low) (a .range .bytes-high),
       not-outside 1 n number (a .number-low) (a .number-high),
     )
+
+-- where n alone is in question: one byte and column 1 are never refused
+pub columns-accepted : (n : ℕ) → 4 ≤ n → n ≤ 31 → refusal n 1 1 ≡ 0
+columns-accepted n l h =
+    not-refused n 1 1 (record {
+      range = record { columns-low = l; columns-high = h; bytes-low = omega arith; bytes-high = omega arith };
+      number-low = omega arith;
+      number-high = omega arith;
+    })
+
+pub columns-refused : (n : ℕ) → (n < 4) ⊎ (31 < n) → refusal n 1 1 ≡ 1
+unfolding refusal outside
+columns-refused n (inl h) = simp (lt-ltb n 4 h)
+columns-refused n (inr h) = simp (le-ltb n 4 (omega arith), lt-ltb 31 n h)

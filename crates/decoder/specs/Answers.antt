@@ -1,0 +1,174 @@
+-- Why each answer that the code gives is the definition's.
+use mathlib.Core.Path.{_≡_, refl, sym, ap, _∙_}
+use mathlib.Core.Bool.{Bool, true, false, not, _&&_}
+use mathlib.Core.List.{List, [], _∷_}
+use Prim.Native.Nat.{ℕ, zero, suc, _+_, _-_, _*_, _%_, _≤_, _<_}
+use native.Mathlib.Nat.{mod-eq-of-lt, mul-comm, mul-zero, eq-or-lt-of-le}
+use native.Mathlib.Decide.{decLe, decLt}
+use native.Mathlib.Omega.{arith}
+use lib.Dec.{T, T-not, not-T, eqb, eqb→eq, ltb, ltb→lt, lt→ltb, leb, le→leb}
+use lib.ListN.{length, getD, take, List·getD-eq-default}
+use lib.Seq.{length-take-le}
+use Rattle.lists.specs.Lists.{count, Below}
+use Rattle.lists.specs.Tests.{and-left, and-right, and-both, eq→eqb}
+use Rattle.lists.specs.Count.{mono, cover, longer, count-same}
+use Rattle.field.specs.Field.{of, blank}
+use Rattle.field.specs.Congruence.{_≋_, times, scale}
+use Rattle.field.specs.Laws.{cancel}
+use Rattle.block.specs.Block.{value, meet}
+use Rattle.block.specs.Value.{value-lt}
+use Rattle.block.specs.Algebra.{product, value-product, length-product, same-values}
+use Rattle.sizes.specs.Sizes.{faults, degree}
+use Rattle.sizes.specs.Laws.{Sized, sized}
+use Rattle.locator.specs.Located.{Locates}
+use Rattle.decoder.specs.Decoder.{at, meetsAt, hits, through, coefficients, decoded, four}
+use Rattle.decoder.specs.Interpolation.{Rising, On, through-on, through-length, through-below}
+use Rattle.decoder.specs.Exactly.{IsAnswer, Accepts, is-answer, no-answer}
+use Rattle.decoder.specs.Places.{usable, Chain, chain-take, Chosen, chain-chosen}
+use Rattle.decoder.specs.declared.Coefficients.{Coefficients}
+use Rattle.decoder.specs.declared.Decoded.{Decoded}
+use Rattle.decoder.specs.declared.Decoded.the-variants.{Polynomial, Nothing, Refused}
+
+-- FOUR COEFFICIENTS FOR AT MOST FOUR
+
+value-four : (f : List ℕ) (x : ℕ) → length f ≤ 4 → value (four (coefficients f)) x ≡ value f x
+unfolding value
+value-four [] x h = simp mul-zero
+value-four (a ∷ []) x h = simp mul-zero
+value-four (a ∷ b ∷ []) x h = simp mul-zero
+value-four (a ∷ b ∷ c ∷ []) x h = simp mul-zero
+value-four (a ∷ b ∷ c ∷ d ∷ []) x h = refl
+value-four (a ∷ b ∷ c ∷ d ∷ e ∷ f) x h = absurd (omega arith)
+
+hits-four : (f : List ℕ) (y : ℕ → ℕ) (n : ℕ) → length f ≤ 4 → hits (four (coefficients f)) y n ≡ hits f y n
+hits-four f y n h = count-same (meetsAt (four (coefficients f)) y) (meetsAt f y) n (λ i l u. ap (λ (z : ℕ). eqb z (y i)) (value-four f i h))
+
+-- a point that is not blank stands in the list
+present : (points : List ℕ) (x : ℕ) → 1 ≤ x → at points x < 257 → x ≤ length points
+present points x l h = go (decLe x (length points))
+  where
+    go : Dec (x ≤ length points) → x ≤ length points
+    go (yes k) = k
+    go (no k) = absurd (omega (arith, List·getD-eq-default points blank {n = x - 1} (omega arith)))
+
+module _ (n : ℕ) (points : List ℕ) (a : Accepts n points) where
+  sizes : Sized n 1
+  sizes = sized n 1 (record { columns-low = a .low; columns-high = a .high; bytes-low = omega arith; bytes-high = omega arith })
+
+  -- A POLYNOMIAL THROUGH SOME POINTS THAT MEETS ENOUGH OF THEM
+
+  pub met : (xs : List ℕ) (c : Coefficients) → length xs ≡ degree n + 1 → c ≡ coefficients (through xs (at points)) → n - faults n ≤ hits (four c) (at points) n
+      → Polynomial c ≡ decoded n points
+  met xs c el ec h =
+      let f : List ℕ = through xs (at points) in
+      let b : length f ≤ 4 = omega (arith, through-length xs (at points), sizes .degree-high) in
+      ap Polynomial ec
+      ∙ sym (is-answer n points a f (record {
+        size = through-length xs (at points) ∙ el;
+        small = through-below xs (at points);
+        meets = omega (arith, hits-four f (at points) n b, ap (λ (c : Coefficients). hits (four c) (at points) n) ec);
+      }))
+
+  -- TOO FEW POINTS
+
+  pub too-few : count (λ x. ltb (at points x) 257) n < n - faults n → Nothing ≡ decoded n points
+  too-few h =
+      sym (no-answer n points a (λ f i.
+      omega (
+        arith,
+        i .meets,
+        mono (meetsAt f (at points)) (λ x. ltb (at points x) 257) n (λ x l u m.
+            lt→ltb (at points x) 257 (omega (arith, value-lt f x, eqb→eq (value f x) (at points x) m))),
+      )))
+
+  -- THE LOCATOR'S PLACES: where f is an answer, it meets every usable point, and there are enough of them
+
+  module _ (es : List ℕ) (loc : Locates n (faults n) points es) (f : List ℕ) (i : IsAnswer n points f) where
+    fits : (x : ℕ) → 1 ≤ x → x ≤ n → at points x < 257 → value (loc .q) x ≋ at points x * value (loc .e) x
+    fits x l u h =
+        let e : x - 1 + 1 ≡ x = omega arith in
+        rw e at (loc .fits (x - 1) (omega arith) h)
+
+    where-met : (x : ℕ) → 1 ≤ x → x ≤ n → T (meetsAt f (at points) x) → T (meet (loc .q) (product f (loc .e)) x)
+    where-met x l u m =
+        let e : value f x ≡ at points x = eqb→eq (value f x) (at points x) m in
+        eq→eqb _ _ (sym (mod-eq-of-lt (value-lt (loc .q) x)) ∙ fits x l u (omega (arith, value-lt f x)) ∙ ap (λ (z : ℕ). of (z * value (loc .e) x)) (sym e)
+        ∙ sym (value-product f (loc .e) x) ∙ mod-eq-of-lt (value-lt (product f (loc .e)) x))
+
+    -- q = f e
+    one-product : (x : ℕ) → value (loc .q) x ≡ value (product f (loc .e)) x
+    one-product =
+        same-values (n - faults n) n (loc .q) (product f (loc .e)) (omega (arith, a .high)) (loc .q-size)
+        (omega (arith, length-product f (loc .e), i .size, loc .e-size, sizes .degree-few, sizes .faults-low, sizes .faults-few))
+        (omega (arith, i .meets, mono (meetsAt f (at points)) (meet (loc .q) (product f (loc .e))) n where-met))
+
+    zero-at : ℕ → Bool
+    zero-at x = eqb (value (loc .e) x) 0
+
+    -- e has at most t zeros
+    few-zeros : count zero-at n ≤ faults n
+    unfolding zero-at value
+    few-zeros = go (decLe (faults n + 1) (count zero-at n))
+      where
+        go : Dec (faults n + 1 ≤ count zero-at n) → count zero-at n ≤ faults n
+        go (no h) = omega arith
+        go (yes h) =
+            let none : value (loc .e) 0 ≡ 0 = same-values (faults n + 1) n (loc .e) [] (omega (arith, a .high)) (loc .e-size) (omega arith) h 0 in
+            absurd (loc .not-zero none (one-product 0 ∙ sym (mod-eq-of-lt (value-lt (product f (loc .e)) 0)) ∙ value-product f (loc .e) 0 ∙ rw none (omega arith)))
+
+    -- the value of e at a usable place
+    locator-at : (x : ℕ) → 1 ≤ x → x ≤ n → getD es (x - 1) 0 ≡ value (loc .e) x
+    locator-at x l u =
+        let e : x - 1 + 1 ≡ x = omega arith in
+        rw e at (loc .e-values (x - 1) (omega arith))
+
+    agrees : (x : ℕ) → 1 ≤ x → T (usable points es x) → at points x ≡ value f x
+    agrees x l t =
+        let h : at points x < 257 = ltb→lt (at points x) 257 (and-left (ltb (at points x) 257) (not (eqb (getD es (x - 1) 0) 0)) t) in
+        let u : x ≤ n = omega (arith, present points x l h, a .full) in
+        let nz : value (loc .e) x ≡ 0 → ⊥ = λ z.
+            T-not (eqb (getD es (x - 1) 0) 0) (and-right (ltb (at points x) 257) (not (eqb (getD es (x - 1) 0) 0)) t) (eq→eqb (getD es (x - 1) 0) 0 (locator-at x l u ∙ z)) in
+        sym (mod-eq-of-lt h)
+        ∙ cancel (value (loc .e) x) (at points x) (value f x) (omega (arith, nz)) (value-lt (loc .e) x)
+        (ap of (mul-comm (value (loc .e) x) (at points x)) ∙ sym (fits x l u h) ∙ ap of (one-product x) ∙ value-product f (loc .e) x ∙ ap of (mul-comm (value f x) (value (loc .e) x)))
+        ∙ mod-eq-of-lt (value-lt f x)
+
+    from-one : ℕ → Bool
+    from-one x = leb 1 x && usable points es x
+
+    enough-usable : degree n + 1 ≤ count from-one 32
+    unfolding zero-at from-one
+    enough-usable =
+        let all : 32 - n + n ≡ 32 = omega (arith, a .high) in
+        let more : count from-one n ≤ count from-one 32 = rw all at (longer from-one n (32 - n)) in
+        omega (arith, i .meets, few-zeros, more, sizes .room, cover (meetsAt f (at points)) zero-at from-one n good)
+      where
+        good : (x : ℕ) → 1 ≤ x → x ≤ n → T (meetsAt f (at points) x) → T (not (zero-at x)) → T (from-one x)
+        good x l u m z =
+            and-both (leb 1 x) (usable points es x) (le→leb 1 x l)
+            (and-both (ltb (at points x) 257) (not (eqb (getD es (x - 1) 0) 0)) (lt→ltb (at points x) 257 (omega (arith, value-lt f x, eqb→eq (value f x) (at points x) m)))
+            (rw (locator-at x l u) z))
+
+    -- so the polynomial through the first usable places is f
+    only : (xs : List ℕ) → Chain (usable points es) 1 xs → length xs ≡ degree n + 1 → through xs (at points) ≡ f
+    unfolding from-one
+    only xs chain e =
+        let chosen = chain-chosen (usable points es) xs 1 chain (omega (arith, enough-usable)) in
+        through-on xs (at points) f 1 (i .size ∙ sym e) (i .small) (chosen .1) (on 1 xs (omega arith) (chosen .0) (chosen .1))
+      where
+        on : (b : ℕ) (xs : List ℕ) → 1 ≤ b → Chosen (usable points es) xs → Rising b xs → On xs (at points) f
+        on b [] l c r = tt
+        on b (x ∷ xs) l c r = (agrees x (omega arith) (c .1), on (suc x) xs (omega arith) (c .2) (r .2))
+
+  pub none-left : (es xs : List ℕ) (c : Coefficients) → Locates n (faults n) points es → Chain (usable points es) 1 xs → degree n + 1 ≤ length xs
+      → c ≡ coefficients (through (take (degree n + 1) xs) (at points)) → hits (four c) (at points) n < n - faults n → Nothing ≡ decoded n points
+  none-left es xs c loc chain long ec h =
+      sym (no-answer n points a (λ f i.
+      let ys : List ℕ = take (degree n + 1) xs in
+      let same : through ys (at points) ≡ f = only es loc f i ys (chain-take (usable points es) (degree n + 1) 1 xs chain) (length-take-le (degree n + 1) xs long) in
+      omega (
+        arith,
+        i .meets,
+        hits-four f (at points) n (omega (arith, i .size, sizes .degree-high)),
+        ap (λ (c : Coefficients). hits (four c) (at points) n) (ec ∙ ap (λ (g : List ℕ). coefficients g) same),
+      )))

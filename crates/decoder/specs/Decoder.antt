@@ -1,0 +1,90 @@
+-- The definitions.
+use mathlib.Core.Bool.{Bool, cond}
+use mathlib.Core.List.{List, [], _∷_}
+use mathlib.Core.Option.{Option, none, some}
+use Prim.Native.Nat.{ℕ, zero, suc, _+_, _-_}
+use lib.Dec.{eqb, leb}
+use lib.ListN.{length, getD, take}
+use Rattle.lists.specs.Lists.{count}
+use Rattle.field.specs.Field.{of, subtract, multiply, inverse, blank}
+use Rattle.block.specs.Block.{value}
+use Rattle.sizes.specs.Sizes.{faults, degree, refusal}
+use Rattle.decoder.specs.declared.Coefficients.{Coefficients}
+use Rattle.decoder.specs.declared.Decoded.{Decoded}
+use Rattle.decoder.specs.declared.Decoded.the-variants.{Polynomial, Nothing, Refused}
+
+-- the point at place x, counted from 1; blank past the end
+abbrev pub at : List ℕ → ℕ → ℕ
+at points x = getD points (x - 1) blank
+
+-- at how many of the places 1 to n the polynomial meets y. "A blank meets none": a value is below 257, a blank is not
+abbrev pub meetsAt : List ℕ → (ℕ → ℕ) → ℕ → Bool
+meetsAt f y x = eqb (value f x) (y x)
+
+abbrev pub hits : List ℕ → (ℕ → ℕ) → ℕ → ℕ
+hits f y n = count (meetsAt f y) n
+
+-- INTERPOLATION
+
+-- the slope of y between r and x
+abbrev pub slope : (ℕ → ℕ) → ℕ → ℕ → ℕ
+slope y r x = multiply (subtract (y x) (y r)) (inverse (subtract x r))
+
+-- the polynomial with the value v at r and the quotient q by (x - r)
+unfoldable pub under : ℕ → ℕ → List ℕ → List ℕ
+under v r [] = of v ∷ []
+under v r (c ∷ q) = subtract v (multiply r c) ∷ under c r q
+
+-- the polynomial through the values of y at the places of a list
+unfoldable pub through : List ℕ → (ℕ → ℕ) → List ℕ
+through [] y = []
+through (r ∷ rs) y = under (y r) r (through rs (slope y r))
+
+-- THE DECODER, as a search: of the polynomials through k of the places 1 to n, one that meets enough of them
+
+abbrev pub enough : ℕ → (ℕ → ℕ) → ℕ → List ℕ → Option (List ℕ)
+enough n y need f = cond (leb need (hits f y n)) (some f) none
+
+abbrev pub orElse : {A : Type 0} → Option A → Option A → Option A
+orElse none b = b
+orElse (some a) b = some a
+
+-- k more of the places 1 to x beside those picked
+unfoldable pub seek : ℕ → (ℕ → ℕ) → ℕ → ℕ → ℕ → List ℕ → Option (List ℕ)
+seek n y need x zero picked = enough n y need (through picked y)
+seek n y need zero (suc k) picked = none
+seek n y need (suc x) (suc k) picked = let rest = seek n y need x (suc k) picked in orElse (seek n y need x k (suc x ∷ picked)) rest
+
+unfoldable pub found : ℕ → List ℕ → Option (List ℕ)
+found n points = seek n (at points) (n - faults n) n (degree n + 1) []
+
+-- ITS ANSWER
+
+abbrev pub coefficients : List ℕ → Coefficients
+coefficients f = record { c0 = getD f 0 0; c1 = getD f 1 0; c2 = getD f 2 0; c3 = getD f 3 0 }
+
+unfoldable pub answerOf : Option (List ℕ) → Decoded
+answerOf none = Nothing
+answerOf (some f) = Polynomial (coefficients f)
+
+-- THE DEFINITION. n outside 4 to 31 is refused with 1 (one byte and column 1 are never refused), a slice not of n points with 4
+unfoldable pub decoded : ℕ → List ℕ → Decoded
+decoded n points =
+    cond (eqb (refusal n 1 1) 0)
+    (cond (eqb (length points) n) (answerOf (found n points)) (Refused 4))
+    (Refused (refusal n 1 1))
+
+-- document 01's number of each case, 0 for none
+unfoldable pub refusalOf : Decoded → ℕ
+refusalOf (Polynomial c) = 0
+refusalOf Nothing = 0
+refusalOf (Refused r) = r
+
+abbrev pub four : Coefficients → List ℕ
+four c = c .c0 ∷ c .c1 ∷ c .c2 ∷ c .c3 ∷ []
+
+-- and its values: the d + 1 coefficients of a polynomial, or none
+unfoldable pub polynomialOf : ℕ → Decoded → Option (List ℕ)
+polynomialOf n (Polynomial c) = some (take (degree n + 1) (four c))
+polynomialOf n Nothing = none
+polynomialOf n (Refused r) = none

@@ -1,13 +1,13 @@
 -- Why each answer that the code gives is the definition's.
 use mathlib.Core.Path.{_≡_, refl, sym, ap, _∙_}
 use mathlib.Core.Bool.{Bool, true, false, not, _&&_}
-use mathlib.Core.List.{List, [], _∷_}
+use mathlib.Core.List.{List, [], _∷_, map}
 use Prim.Native.Nat.{ℕ, zero, suc, _+_, _-_, _*_, _%_, _≤_, _<_}
 use native.Mathlib.Nat.{mod-eq-of-lt, mul-comm, mul-zero, eq-or-lt-of-le}
 use native.Mathlib.Decide.{decLe, decLt}
 use native.Mathlib.Omega.{arith}
 use lib.Dec.{T, T-not, not-T, eqb, eqb→eq, ltb, ltb→lt, lt→ltb, leb, le→leb}
-use lib.ListN.{length, getD, take, List·getD-eq-default}
+use lib.ListN.{length, length-map, getD, take, List·getD-eq-default}
 use lib.Seq.{length-take-le}
 use Rattle.lists.specs.Lists.{count, Below}
 use Rattle.lists.specs.Tests.{and-left, and-right, and-both, eq→eqb}
@@ -20,11 +20,12 @@ use Rattle.block.specs.Value.{value-lt}
 use Rattle.block.specs.Algebra.{product, value-product, length-product, same-values}
 use Rattle.sizes.specs.Sizes.{faults, degree}
 use Rattle.sizes.specs.Laws.{Sized, sized}
-use Rattle.locator.specs.Located.{Locates}
+use Rattle.locator.specs.Locator.{located}
+use Rattle.locator.specs.Located.{Locates, locates}
 use Rattle.decoder.specs.Decoder.{at, meetsAt, hits, through, coefficients, decoded, four}
-use Rattle.decoder.specs.Interpolation.{Rising, On, through-on, through-length, through-below}
+use Rattle.decoder.specs.Interpolation.{Rising, On, map-on, through-on, through-length, through-below}
 use Rattle.decoder.specs.Exactly.{IsAnswer, Accepts, is-answer, no-answer}
-use Rattle.decoder.specs.Places.{usable, Chain, chain-take, Chosen, chain-chosen}
+use Rattle.decoder.specs.Places.{presentAt, usable, Chain, chain-take, Chosen, chain-chosen}
 use Rattle.decoder.specs.declared.Coefficients.{Coefficients}
 use Rattle.decoder.specs.declared.Decoded.{Decoded}
 use Rattle.decoder.specs.declared.Decoded.the-variants.{Polynomial, Nothing, Refused}
@@ -51,33 +52,42 @@ present points x l h = go (decLe x (length points))
     go (yes k) = k
     go (no k) = absurd (omega (arith, List·getD-eq-default points blank {n = x - 1} (omega arith)))
 
+-- c is the polynomial through the points at the first k usable places
+pub record Candidate (points es : List ℕ) (k : ℕ) (c : Coefficients) : Type 0 where
+  pub xs : List ℕ
+  pub size : length xs ≡ 4
+  pub chain : Chain (usable points es) 1 xs
+  pub is : c ≡ coefficients (through (take k xs) (map (at points) (take k xs)))
+
 module _ (n : ℕ) (points : List ℕ) (a : Accepts n points) where
-  sizes : Sized n 1
+  pub sizes : Sized n 1
   sizes = sized n 1 (record { columns-low = a .low; columns-high = a .high; bytes-low = omega arith; bytes-high = omega arith })
 
   -- A POLYNOMIAL THROUGH SOME POINTS THAT MEETS ENOUGH OF THEM
 
-  pub met : (xs : List ℕ) (c : Coefficients) → length xs ≡ degree n + 1 → c ≡ coefficients (through xs (at points)) → n - faults n ≤ hits (four c) (at points) n
+  pub met : (es : List ℕ) (k : ℕ) (c : Coefficients) → k ≡ degree n + 1 → Candidate points es k c → n - faults n ≤ hits (four c) (at points) n
       → Polynomial c ≡ decoded n points
-  met xs c el ec h =
-      let f : List ℕ = through xs (at points) in
-      let b : length f ≤ 4 = omega (arith, through-length xs (at points), sizes .degree-high) in
-      ap Polynomial ec
+  met es k c ek p h =
+      let xs : List ℕ = take k (p .xs) in
+      let f : List ℕ = through xs (map (at points) xs) in
+      let s : length xs ≡ k = length-take-le k (p .xs) (omega (arith, p .size, sizes .degree-high)) in
+      let l : length f ≡ length xs = through-length xs (map (at points) xs) (sym (length-map xs (at points))) in
+      ap Polynomial (p .is)
       ∙ sym (is-answer n points a f (record {
-        size = through-length xs (at points) ∙ el;
-        small = through-below xs (at points);
-        meets = omega (arith, hits-four f (at points) n b, ap (λ (c : Coefficients). hits (four c) (at points) n) ec);
+        size = l ∙ s ∙ ek;
+        small = through-below xs (map (at points) xs);
+        meets = omega (arith, hits-four f (at points) n (omega (arith, sizes .degree-high)), ap (λ (c : Coefficients). hits (four c) (at points) n) (p .is));
       }))
 
   -- TOO FEW POINTS
 
-  pub too-few : count (λ x. ltb (at points x) 257) n < n - faults n → Nothing ≡ decoded n points
+  pub too-few : count (presentAt points) n < n - faults n → Nothing ≡ decoded n points
   too-few h =
       sym (no-answer n points a (λ f i.
       omega (
         arith,
         i .meets,
-        mono (meetsAt f (at points)) (λ x. ltb (at points x) 257) n (λ x l u m.
+        mono (meetsAt f (at points)) (presentAt points) n (λ x l u m.
             lt→ltb (at points x) 257 (omega (arith, value-lt f x, eqb→eq (value f x) (at points x) m))),
       )))
 
@@ -127,7 +137,7 @@ module _ (n : ℕ) (points : List ℕ) (a : Accepts n points) where
         let h : at points x < 257 = ltb→lt (at points x) 257 (and-left (ltb (at points x) 257) (not (eqb (getD es (x - 1) 0) 0)) t) in
         let u : x ≤ n = omega (arith, present points x l h, a .full) in
         let nz : value (loc .e) x ≡ 0 → ⊥ = λ z.
-            T-not (eqb (getD es (x - 1) 0) 0) (and-right (ltb (at points x) 257) (not (eqb (getD es (x - 1) 0) 0)) t) (eq→eqb (getD es (x - 1) 0) 0 (locator-at x l u ∙ z)) in
+        T-not (eqb (getD es (x - 1) 0) 0) (and-right (ltb (at points x) 257) (not (eqb (getD es (x - 1) 0) 0)) t) (eq→eqb (getD es (x - 1) 0) 0 (locator-at x l u ∙ z)) in
         sym (mod-eq-of-lt h)
         ∙ cancel (value (loc .e) x) (at points x) (value f x) (omega (arith, nz)) (value-lt (loc .e) x)
         (ap of (mul-comm (value (loc .e) x) (at points x)) ∙ sym (fits x l u h) ∙ ap of (one-product x) ∙ value-product f (loc .e) x ∙ ap of (mul-comm (value f x) (value (loc .e) x)))
@@ -150,25 +160,30 @@ module _ (n : ℕ) (points : List ℕ) (a : Accepts n points) where
             (rw (locator-at x l u) z))
 
     -- so the polynomial through the first usable places is f
-    only : (xs : List ℕ) → Chain (usable points es) 1 xs → length xs ≡ degree n + 1 → through xs (at points) ≡ f
+    only : (xs : List ℕ) → Chain (usable points es) 1 xs → length xs ≡ degree n + 1 → through xs (map (at points) xs) ≡ f
     unfolding from-one
     only xs chain e =
         let chosen = chain-chosen (usable points es) xs 1 chain (omega (arith, enough-usable)) in
-        through-on xs (at points) f 1 (i .size ∙ sym e) (i .small) (chosen .1) (on 1 xs (omega arith) (chosen .0) (chosen .1))
+        rw (map-on xs (at points) f (on 1 xs (omega arith) (chosen .0) (chosen .1))) (through-on xs f 1 (i .size ∙ sym e) (i .small) (chosen .1))
       where
         on : (b : ℕ) (xs : List ℕ) → 1 ≤ b → Chosen (usable points es) xs → Rising b xs → On xs (at points) f
         on b [] l c r = tt
         on b (x ∷ xs) l c r = (agrees x (omega arith) (c .1), on (suc x) xs (omega arith) (c .2) (r .2))
 
-  pub none-left : (es xs : List ℕ) (c : Coefficients) → Locates n (faults n) points es → Chain (usable points es) 1 xs → degree n + 1 ≤ length xs
-      → c ≡ coefficients (through (take (degree n + 1) xs) (at points)) → hits (four c) (at points) n < n - faults n → Nothing ≡ decoded n points
-  none-left es xs c loc chain long ec h =
+  pub none-left : (es : List ℕ) (k : ℕ) (c : Coefficients) → k ≡ degree n + 1 → Locates n (faults n) points es → Candidate points es k c
+      → hits (four c) (at points) n < n - faults n → Nothing ≡ decoded n points
+  none-left es k c ek loc p h =
       sym (no-answer n points a (λ f i.
-      let ys : List ℕ = take (degree n + 1) xs in
-      let same : through ys (at points) ≡ f = only es loc f i ys (chain-take (usable points es) (degree n + 1) 1 xs chain) (length-take-le (degree n + 1) xs long) in
+      let xs : List ℕ = take k (p .xs) in
+      let s : length xs ≡ k = length-take-le k (p .xs) (omega (arith, p .size, sizes .degree-high)) in
+      let same : through xs (map (at points) xs) ≡ f = only es loc f i xs (chain-take (usable points es) k 1 (p .xs) (p .chain)) (s ∙ ek) in
       omega (
         arith,
         i .meets,
         hits-four f (at points) n (omega (arith, i .size, sizes .degree-high)),
-        ap (λ (c : Coefficients). hits (four c) (at points) n) (ec ∙ ap (λ (g : List ℕ). coefficients g) same),
+        ap (λ (c : Coefficients). hits (four c) (at points) n) (p .is ∙ ap (λ (g : List ℕ). coefficients g) same),
       )))
+
+  -- the locator of the code
+  pub code-locates : (w : ℕ) (es : List ℕ) → w ≡ n - 2 * faults n - 1 → es ≡ located w points → Locates n (faults n) points es
+  code-locates w es ew ee = rw (ee, ew) (locates n (faults n) points (omega (arith, a .high)) (omega (arith, sizes .room)) (omega (arith, a .full)))

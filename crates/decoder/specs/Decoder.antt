@@ -1,12 +1,13 @@
 -- The definitions.
 use mathlib.Core.Bool.{Bool, cond}
-use mathlib.Core.List.{List, [], _∷_}
+use mathlib.Core.List.{List, [], _∷_, map}
 use mathlib.Core.Option.{Option, none, some}
 use Prim.Native.Nat.{ℕ, zero, suc, _+_, _-_}
 use lib.Dec.{eqb, leb}
 use lib.ListN.{length, getD, take}
 use Rattle.lists.specs.Lists.{count}
-use Rattle.field.specs.Field.{of, subtract, multiply, inverse, blank}
+use Rattle.field.specs.Field.{of, subtract, multiply, inverse}
+use Rattle.locator.specs.Locator.{pointAt}
 use Rattle.block.specs.Block.{value}
 use Rattle.sizes.specs.Sizes.{faults, degree, refusal}
 use Rattle.decoder.specs.declared.Coefficients.{Coefficients}
@@ -15,7 +16,7 @@ use Rattle.decoder.specs.declared.Decoded.the-variants.{Polynomial, Noth
 
 -- the point at place x, counted from 1; blank past the end
 abbrev pub at : List ℕ → ℕ → ℕ
-at points x = getD points (x - 1) blank
+at points x = pointAt points (x - 1)
 
 -- at how many of the places 1 to n the polynomial meets y. "A blank meets none": a value is below 257, a blank is not
 abbrev pub meetsAt : List ℕ → (ℕ → ℕ) → ℕ → Bool
@@ -26,19 +27,26 @@ hits f y n = count (meetsAt f y) n
 
 -- INTERPOLATION
 
--- the slope of y between r and x
-abbrev pub slope : (ℕ → ℕ) → ℕ → ℕ → ℕ
-slope y r x = multiply (subtract (y x) (y r)) (inverse (subtract x r))
+-- the slope from the value v at r to the value u at x
+abbrev pub slope : ℕ → ℕ → ℕ → ℕ → ℕ
+slope r v x u = multiply (subtract u v) (inverse (subtract x r))
+
+-- to each of the values us at the places xs
+unfoldable pub slopes : ℕ → ℕ → List ℕ → List ℕ → List ℕ
+slopes r v [] us = []
+slopes r v (x ∷ xs) [] = []
+slopes r v (x ∷ xs) (u ∷ us) = slope r v x u ∷ slopes r v xs us
 
 -- the polynomial with the value v at r and the quotient q by (x - r)
 unfoldable pub under : ℕ → ℕ → List ℕ → List ℕ
 under v r [] = of v ∷ []
 under v r (c ∷ q) = subtract v (multiply r c) ∷ under c r q
 
--- the polynomial through the values of y at the places of a list
-unfoldable pub through : List ℕ → (ℕ → ℕ) → List ℕ
-through [] y = []
-through (r ∷ rs) y = under (y r) r (through rs (slope y r))
+-- the polynomial with the values vs at the places xs: its quotient by (x - r) has the slopes for values
+unfoldable pub through : List ℕ → List ℕ → List ℕ
+through [] vs = []
+through (r ∷ xs) [] = []
+through (r ∷ xs) (v ∷ vs) = under v r (through xs (slopes r v xs vs))
 
 -- THE DECODER, as a search: of the polynomials through k of the places 1 to n, one that meets enough of them
 
@@ -51,7 +59,7 @@ orElse (some a) b = some a
 
 -- k more of the places 1 to x beside those picked
 unfoldable pub seek : ℕ → (ℕ → ℕ) → ℕ → ℕ → ℕ → List ℕ → Option (List ℕ)
-seek n y need x zero picked = enough n y need (through picked y)
+seek n y need x zero picked = enough n y need (through picked (map y picked))
 seek n y need zero (suc k) picked = none
 seek n y need (suc x) (suc k) picked = let rest = seek n y need x (suc k) picked in orElse (seek n y need x k (suc x ∷ picked)) rest
 

@@ -14,7 +14,7 @@ use Rattle.lists.specs.Lists.{Below}
 use Rattle.block.specs.Block.{value}
 use Rattle.block.specs.Value.{value-lt}
 use Rattle.sizes.specs.Sizes.{faults, degree, refusal}
-use Rattle.sizes.specs.Laws.{Sized, sized, columns-accepted, columns-refused}
+use Rattle.sizes.specs.Laws.{Sized, sized, Accepted, accepted as sizes-accepted, columns-accepted, columns-refused}
 use Rattle.decoder.specs.Decoder.{at, meetsAt, hits, seek, found, coefficients, answerOf, decoded, refusalOf, four, polynomialOf}
 use Rattle.decoder.specs.Search.{Answer, seek-finds, seek-answers}
 use Rattle.decoder.specs.declared.Decoded.{Decoded}
@@ -122,3 +122,17 @@ module _ (n : ℕ) (points : List ℕ) where
   pub refused-4 : 4 ≤ n → n ≤ 31 → (length points ≡ n → ⊥) → decoded n points ≡ Refused 4
   unfolding decoded
   refused-4 l u h = rw (eq-eqb (refusal n 1 1) 0 (columns-accepted n l u), ne-eqb (length points) n h)
+
+  -- the same by the refusal of the sizes
+  pub refused-columns : (refusal n 1 1 ≡ 0 → ⊥) → decoded n points ≡ Refused (refusal n 1 1)
+  unfolding decoded
+  refused-columns h = rw (ne-eqb (refusal n 1 1) 0 h)
+
+  pub refused-points : refusal n 1 1 ≡ 0 → (length points ≡ n → ⊥) → decoded n points ≡ Refused 4
+  unfolding decoded
+  refused-points e h = rw (eq-eqb (refusal n 1 1) 0 e, ne-eqb (length points) n h)
+
+  pub accepts-of : refusal n 1 1 ≡ 0 → length points ≡ n → Accepts n points
+  accepts-of e f =
+      let r = sizes-accepted n 1 1 e in
+      record { low = r .range .columns-low; high = r .range .columns-high; full = f }

@@ -1,6 +1,6 @@
 -- Interpolation: the polynomial through k values of a polynomial of k coefficients is that polynomial.
 use mathlib.Core.Path.{_≡_, refl, sym, ap, ap₂, _∙_}
-use mathlib.Core.List.{List, [], _∷_}
+use mathlib.Core.List.{List, [], _∷_, map}
 use Prim.Native.Nat.{ℕ, zero, suc, _+_, _-_, _*_, _/_, _%_, _≤_, _<_}
 use native.Mathlib.Nat.{mod-lt, mod-eq-of-lt}
 use native.Mathlib.Omega.{arith}
@@ -13,7 +13,7 @@ use Rattle.field.specs.Laws.{inverse-small}
 use Rattle.block.specs.Block.{value}
 use Rattle.block.specs.Value.{value-lt, value-cons}
 use Rattle.block.specs.Apart.{quotient, quotient-length, quotient-below, division}
-use Rattle.decoder.specs.Decoder.{slope, under, through}
+use Rattle.decoder.specs.Decoder.{slope, slopes, under, through}
 
 back : (a z : ℕ) → a < 257 → subtract (of (a + z)) (of z) ≡ a
 back a z h = omega arith
@@ -41,10 +41,12 @@ divide u e Q p l h s =
 subtract-pos : (x r : ℕ) → x < 257 → r < 257 → (x ≡ r → ⊥) → 0 < subtract x r
 subtract-pos x r hx hr ne = omega arith
 
-slope-is : (y : ℕ → ℕ) (a : ℕ) (cs : List ℕ) (x r : ℕ) → x < 257 → r < 257 → (x ≡ r → ⊥) → y x ≡ value (a ∷ cs) x → y r ≡ value (a ∷ cs) r → slope y r x ≡ value (quotient cs r) x
-slope-is y a cs x r hx hr ne ex er =
-    divide (subtract (y x) (y r)) (subtract x r) (value (quotient cs r) x) (subtract-pos x r hx hr ne) (mod-lt (x + (257 - r % 257)) (lit< tt))
-    (slope-core (y x) (y r) (value (quotient cs r) x) x r (subtract (y x) (y r)) (subtract x r) (rw (ex, er) (division a cs x r)) (subtract-plus (y x) (y r)) (subtract-plus x r))
+slope-is : (a : ℕ) (cs : List ℕ) (x r : ℕ) → x < 257 → r < 257 → (x ≡ r → ⊥) → slope r (value (a ∷ cs) r) x (value (a ∷ cs) x) ≡ value (quotient cs r) x
+slope-is a cs x r hx hr ne =
+    let F : ℕ = value (a ∷ cs) x in
+    let G : ℕ = value (a ∷ cs) r in
+    divide (subtract F G) (subtract x r) (value (quotient cs r) x) (subtract-pos x r hx hr ne) (mod-lt (x + (257 - r % 257)) (lit< tt))
+    (slope-core F G (value (quotient cs r) x) x r (subtract F G) (subtract x r) (division a cs x r) (subtract-plus F G) (subtract-plus x r))
     (value-lt (quotient cs r) x)
 
 -- the places of a list are at least b, rising, and below 257
@@ -52,28 +54,26 @@ abbrev pub Rising : ℕ → List ℕ → Type 0
 Rising b [] = Unit {0}
 Rising b (x ∷ xs) = (b ≤ x) × (x < 257) × Rising (suc x) xs
 
--- y has p's values at the places of a list
-abbrev pub On : List ℕ → (ℕ → ℕ) → List ℕ → Type 0
-On [] y p = Unit {0}
-On (x ∷ xs) y p = (y x ≡ value p x) × On xs y p
-
 pub lower : (b : ℕ) (xs : List ℕ) → Rising (suc b) xs → Rising b xs
 lower b [] r = tt
 lower b (x ∷ xs) r = (omega arith, r .1, r .2)
 
-slopes-on : (y : ℕ → ℕ) (a : ℕ) (cs : List ℕ) (r b : ℕ) (xs : List ℕ) → r < 257 → y r ≡ value (a ∷ cs) r → r < b → Rising b xs → On xs y (a ∷ cs) → On xs (slope y r) (quotient cs r)
-slopes-on y a cs r b [] hr er l h o = tt
-slopes-on y a cs r b (x ∷ xs) hr er l h o =
-    (slope-is y a cs x r (h .1) hr (λ e. omega arith) (o .0) er, slopes-on y a cs r (suc x) xs hr er (omega arith) (h .2) (o .1))
+-- the slopes of a polynomial are the values of its quotient
+slopes-on : (a : ℕ) (cs : List ℕ) (r b : ℕ) (xs : List ℕ) → r < 257 → r < b → Rising b xs
+    → slopes r (value (a ∷ cs) r) xs (map (value (a ∷ cs)) xs) ≡ map (value (quotient cs r)) xs
+unfolding slopes
+slopes-on a cs r b [] hr l h = refl
+slopes-on a cs r b (x ∷ xs) hr l h =
+    ap₂ {C = List ℕ} (λ z zs. z ∷ zs) (slope-is a cs x r (h .1) hr (λ e. omega arith)) (slopes-on a cs r (suc x) xs hr (omega arith) (h .2))
 
-pub through-on : (xs : List ℕ) (y : ℕ → ℕ) (p : List ℕ) (b : ℕ) → length p ≡ length xs → Below 257 p → Rising b xs → On xs y p → through xs y ≡ p
+pub through-on : (xs p : List ℕ) (b : ℕ) → length p ≡ length xs → Below 257 p → Rising b xs → through xs (map (value p) xs) ≡ p
 unfolding through
-through-on [] y [] b e s h o = refl
-through-on [] y (a ∷ cs) b e s h o = absurd (omega arith)
-through-on (r ∷ rs) y [] b e s h o = absurd (omega arith)
-through-on (r ∷ rs) y (a ∷ cs) b e s h o =
-    rw (through-on rs (slope y r) (quotient cs r) (suc r) (omega (arith, quotient-length cs r)) (quotient-below cs r) (h .2) (slopes-on y a cs r (suc r) rs (h .1) (o .0) (omega arith) (h .2) (o .1)), o .0)
-    (under-quotient a cs r s)
+through-on [] [] b e s h = refl
+through-on [] (a ∷ cs) b e s h = absurd (omega arith)
+through-on (r ∷ rs) [] b e s h = absurd (omega arith)
+through-on (r ∷ rs) (a ∷ cs) b e s h =
+    ap (λ (vs : List ℕ). under (value (a ∷ cs) r) r (through rs vs)) (slopes-on a cs r (suc r) rs (h .1) (omega arith) (h .2))
+    ∙ rw (through-on rs (quotient cs r) (suc r) (omega (arith, quotient-length cs r)) (quotient-below cs r) (h .2)) (under-quotient a cs r s)
 
 pub under-length : (v r : ℕ) (es : List ℕ) → length (under v r es) ≡ suc (length es)
 unfolding under
@@ -87,13 +87,30 @@ under-below v r [] (suc i) = lit< tt
 under-below v r (e ∷ es) zero = mod-lt (v + (257 - multiply r e % 257)) (lit< tt)
 under-below v r (e ∷ es) (suc i) = under-below e r es i
 
-pub through-length : (xs : List ℕ) (y : ℕ → ℕ) → length (through xs y) ≡ length xs
-unfolding through
-through-length [] y = refl
-through-length (r ∷ rs) y = under-length (y r) r (through rs (slope y r)) ∙ ap suc (through-length rs (slope y r))
+length-slopes : (r v : ℕ) (xs vs : List ℕ) → length xs ≡ length vs → length (slopes r v xs vs) ≡ length vs
+unfolding slopes
+length-slopes r v [] vs e = e
+length-slopes r v (x ∷ xs) [] e = refl
+length-slopes r v (x ∷ xs) (u ∷ vs) e = ap suc (length-slopes r v xs vs (omega arith))
 
-pub through-below : (xs : List ℕ) (y : ℕ → ℕ) → Below 257 (through xs y)
+pub through-length : (xs vs : List ℕ) → length xs ≡ length vs → length (through xs vs) ≡ length xs
 unfolding through
-through-below [] y i = lit< tt
-through-below (r ∷ rs) y i = under-below (y r) r (through rs (slope y r)) i
+through-length [] vs e = refl
+through-length (r ∷ xs) [] e = absurd (omega arith)
+through-length (r ∷ xs) (v ∷ vs) e =
+    under-length v r (through xs (slopes r v xs vs)) ∙ ap suc (through-length xs (slopes r v xs vs) (omega (arith, length-slopes r v xs vs (omega arith))))
 
+pub through-below : (xs vs : List ℕ) → Below 257 (through xs vs)
+unfolding through
+through-below [] vs i = lit< tt
+through-below (r ∷ xs) [] i = lit< tt
+through-below (r ∷ xs) (v ∷ vs) i = under-below v r (through xs (slopes r v xs vs)) i
+
+-- y has p's values at the places of a list
+abbrev pub On : List ℕ → (ℕ → ℕ) → List ℕ → Type 0
+On [] y p = Unit {0}
+On (x ∷ xs) y p = (y x ≡ value p x) × On xs y p
+
+pub map-on : (xs : List ℕ) (y : ℕ → ℕ) (p : List ℕ) → On xs y p → map y xs ≡ map (value p) xs
+map-on [] y p o = refl
+map-on (x ∷ xs) y p o = ap₂ {C = List ℕ} (λ z zs. z ∷ zs) (o .0) (map-on xs y p (o .1))

@@ -13,9 +13,13 @@ use Rattle.lists.specs.Count.{none, cover, count-one}
 use Rattle.decoder.specs.Decoder.{at}
 use Rattle.decoder.specs.Interpolation.{Rising}
 
--- the point at place x is not blank, and the locator is not 0 there
+-- the point at place x is not blank
+abbrev pub presentAt : List ℕ → ℕ → Bool
+presentAt points x = ltb (at points x) 257
+
+-- and the locator is not 0 there
 abbrev pub usable : List ℕ → List ℕ → ℕ → Bool
-usable points es x = ltb (at points x) 257 && not (eqb (getD es (x - 1) 0) 0)
+usable points es x = presentAt points x && not (eqb (getD es (x - 1) 0) 0)
 
 -- x is the first place from `from` on that passes, if it is one of 32
 pub record Next (P : ℕ → Bool) (from x : ℕ) : Type 0 where

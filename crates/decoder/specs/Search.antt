@@ -1,21 +1,21 @@
 -- The search: what it finds is an answer, two answers are one, and an answer is found.
 use mathlib.Core.Path.{_≡_, refl, sym, ap, _∙_}
 use mathlib.Core.Bool.{Bool, true, false, _&&_, cond}
-use mathlib.Core.List.{List, [], _∷_}
+use mathlib.Core.List.{List, [], _∷_, map}
 use mathlib.Core.Option.{Option, none, some}
 use Prim.Native.Nat.{ℕ, zero, suc, _+_, _-_, _*_, _≤_, _<_}
 use native.Mathlib.Nat.{zero-add}
 use native.Mathlib.Omega.{arith}
 use borrow.Author.Tests.{le-leb}
 use lib.Dec.{T, leb, leb→le, eqb, eqb→eq}
-use lib.ListN.{length}
+use lib.ListN.{length, length-map}
 use Rattle.lists.specs.Lists.{bit, count, Below}
 use Rattle.lists.specs.Tests.{imp, to-imp, eq→eqb, conj}
 use Rattle.lists.specs.Count.{count-all, law-if}
 use Rattle.block.specs.Block.{value, meet}
 use Rattle.block.specs.Apart.{unique}
 use Rattle.decoder.specs.Decoder.{meetsAt, hits, through, enough, orElse, seek}
-use Rattle.decoder.specs.Interpolation.{Rising, On, lower, through-on, through-length, through-below}
+use Rattle.decoder.specs.Interpolation.{Rising, On, lower, map-on, through-on, through-length, through-below}
 
 -- an answer: a polynomial of k coefficients that meets y at `need` of the places 1 to n
 pub record Answer (n need k : ℕ) (y : ℕ → ℕ) (p : List ℕ) : Type 0 where
@@ -36,7 +36,7 @@ module _ (n need k : ℕ) (y : ℕ → ℕ) where
 
   seek-sound : (i j : ℕ) (xs q : List ℕ) → length xs + j ≡ k → seek n y need i j xs ≡ some q → Answer n need k y q
   unfolding seek
-  seek-sound i zero xs q l e = enough-sound (through xs y) q (omega (arith, through-length xs y)) (through-below xs y) e
+  seek-sound i zero xs q l e = enough-sound (through xs (map y xs)) q (omega (arith, through-length xs (map y xs) (sym (length-map xs y)))) (through-below xs (map y xs)) e
   seek-sound zero (suc j) xs q l e = let z : _≡_ {A = ℕ} 0 1 = cc in absurd (omega arith)
   seek-sound (suc i) (suc j) xs q l e = go (seek n y need i j (suc i ∷ xs)) (λ r f. seek-sound i j (suc i ∷ xs) r (omega arith) f) (λ f. seek-sound i (suc j) xs q l f) refl e
     where
@@ -71,7 +71,7 @@ module _ (n need k : ℕ) (y : ℕ → ℕ) where
 
       seek-hit : (i j : ℕ) (xs : List ℕ) → length xs + j ≡ k → i < 257 → Rising (suc i) xs → On xs y p → j ≤ hits p y i → seek n y need i j xs ≡ some p
       unfolding seek count
-      seek-hit i zero xs l hi r o h = rw (through-on xs y p (suc i) (omega (arith, a .long)) (a .small) r o) enough-hit
+      seek-hit i zero xs l hi r o h = rw (map-on xs y p o, through-on xs p (suc i) (omega (arith, a .long)) (a .small) r) enough-hit
       seek-hit zero (suc j) xs l hi r o h = absurd (omega arith)
       seek-hit (suc i) (suc j) xs l hi r o h =
           go (eqb (value p (suc i)) (y (suc i))) refl (seek n y need i j (suc i ∷ xs)) refl (seek-hit i j (suc i ∷ xs)) (seek-hit i (suc j) xs)

@@ -1,4 +1,22 @@
-// The decoder: of n points, the polynomial of degree at most d that meets at least n - t of them, or none.
+// The decoder: of n points, the polynomial of degree at most d that meets at least n - t of them, or none. A polynomial that meets that
+// many is the answer, however it was found. Where the one through the first points does not, an error locator says which points to trust.
+use field::Field;
+ghost use mathlib.Core.Path.{_≡_};
+ghost use mathlib.Core.Bool.{Bool, cond};
+ghost use mathlib.Core.List.{List, map};
+ghost use Prim.Native.Nat.{ℕ, _+_, _-_, _<_, _≤_};
+ghost use lib.Dec.{eqb, ltb};
+ghost use lib.ListN.{length, take};
+ghost use Rattle.lists.specs.Lists.{bit, count};
+ghost use Rattle.field.specs.Field.{subtract, multiply};
+ghost use Rattle.block.specs.Block.{value as valueOf};
+ghost use Rattle.decoder.specs.Decoder.{at, meetsAt, hits as hitsOf, slope as slopeOf, slopes as slopesOf, through as throughOf, coefficients, four, decoded};
+ghost use Rattle.decoder.specs.Exactly.{Accepts};
+ghost use Rattle.decoder.specs.Places.{presentAt, usable as usableOf, Next, Chain};
+ghost use Rattle.decoder.specs.Answers.{Candidate};
+ghost use Rattle.decoder.specs.Steps.{listed, tailOf, pushed};
+
+// A polynomial, its constant term first; coefficients that it does not have are 0.
 pub struct Coefficients {
     pub c0: u16,
     pub c1: u16,
@@ -12,10 +30,251 @@ pub enum Decoded {
     Refused(u8),
 }
 
-// Four places.
-struct Places {
-    x0: usize,
-    x1: usize,
-    x2: usize,
-    x3: usize,
+// Four places, or the values there.
+struct Four {
+    a: u16,
+    b: u16,
+    c: u16,
+    d: u16,
+}
+
+// The value of a polynomial at x.
+fn value(c: Coefficients, x: u16) -> u16
+    ensures { λ r. ⌜ r ≡ valueOf (four c) x ⌝ }
+{
+    let p = Field(x);
+    let three = Field::add_product(Field(c.c2), p, Field::of(c.c3));
+    let all = Field::add_product(Field(c.c0), p, Field::add_product(Field(c.c1), p, three));
+    all.0
+}
+
+// 1 where a polynomial has the value y at x, else 0.
+fn hit(c: Coefficients, x: u16, y: u16) -> usize
+    ensures { λ r. ⌜ r ≡ bit (eqb (valueOf (four c) x) y) ⌝ }
+{
+    if value(c, x) == y {
+        return 1;
+    }
+    0
+}
+
+// How many of the points a polynomial meets.
+fn hits(n: usize, points: &[u16], c: Coefficients) -> usize
+    requires { ⌜ (n ≤ 31) × (length (now points) ≡ n) ⌝ }
+    ensures { λ r. ⌜ r ≡ hitsOf (four c) (at (now (points .entry))) n ⌝ }
+{
+    let mut sum = 0usize;
+    for i in 0..n {
+        sum += hit(c, (i + 1) as u16, points[i]);
+    }
+    sum
+}
+
+fn one_if_point(y: u16) -> usize
+    ensures { λ r. ⌜ r ≡ bit (ltb y 257) ⌝ }
+{
+    if y < 257 {
+        return 1;
+    }
+    0
+}
+
+// How many of the points are not blank.
+fn present(n: usize, points: &[u16]) -> usize
+    requires { ⌜ (n ≤ 31) × (length (now points) ≡ n) ⌝ }
+    ensures { λ r. ⌜ r ≡ count (presentAt (now (points .entry))) n ⌝ }
+{
+    let mut sum = 0usize;
+    for i in 0..n {
+        sum += one_if_point(points[i]);
+    }
+    sum
+}
+
+// The slope from the value v at r to the value u at x; 0 where it is not wanted.
+fn slope(wanted: bool, r: u16, v: u16, x: u16, u: u16) -> u16
+    ensures { λ s. ⌜ s ≡ cond wanted (slopeOf r v x u) 0 ⌝ }
+{
+    if wanted {
+        let rise = Field::subtract(Field(u), Field(v));
+        let run = Field::subtract(Field(x), Field(r));
+        let ratio = Field::multiply(rise, Field::inverse(run));
+        return ratio.0;
+    }
+    0
+}
+
+// The slopes from the first value to the next k.
+fn slopes(k: usize, x: Four, v: Four) -> Four
+    requires { ⌜ k ≤ 3 ⌝ }
+    ensures { λ s. ⌜ take k (listed s) ≡ slopesOf (x .a) (v .a) (take k (listed (tailOf x))) (take k (listed (tailOf v))) ⌝ }
+{
+    Four {
+        a: slope(0 < k, x.a, v.a, x.b, v.b),
+        b: slope(1 < k, x.a, v.a, x.c, v.c),
+        c: slope(2 < k, x.a, v.a, x.d, v.d),
+        d: 0,
+    }
+}
+
+fn difference(v: u16, r: u16, c: u16) -> u16
+    ensures { λ s. ⌜ s ≡ subtract v (multiply r c) ⌝ }
+{
+    let s = Field::subtract(Field(v), Field::multiply(Field(r), Field(c)));
+    s.0
+}
+
+// The polynomial with the value v at r and the quotient q there.
+fn push(v: u16, r: u16, q: Coefficients) -> Coefficients
+    ensures { λ c. ⌜ c ≡ pushed v r q ⌝ }
+{
+    Coefficients {
+        c0: difference(v, r, q.c0),
+        c1: difference(q.c0, r, q.c1),
+        c2: difference(q.c1, r, q.c2),
+        c3: q.c2 % Field::MODULUS,
+    }
+}
+
+fn tail(x: Four) -> Four
+    ensures { λ r. ⌜ r ≡ tailOf x ⌝ }
+{
+    Four {
+        a: x.b,
+        b: x.c,
+        c: x.d,
+        d: 0,
+    }
+}
+
+// The polynomial of k coefficients with the first k values v at the first k places x.
+fn through(k: usize, x: Four, v: Four) -> Coefficients
+    requires { ⌜ k ≤ 4 ⌝ }
+    ensures { λ r. ⌜ r ≡ coefficients (throughOf (take k (listed x)) (take k (listed v))) ⌝ }
+{
+    if k == 0 {
+        return Coefficients {
+            c0: 0,
+            c1: 0,
+            c2: 0,
+            c3: 0,
+        };
+    }
+    let rest = through(k - 1, tail(x), slopes(k - 1, x, v));
+    push(v.a, x.a, rest)
+}
+
+// The point at place x, counted from 1; blank past the end.
+fn at_place(points: &[u16], x: u16) -> u16
+    ensures { λ r. ⌜ r ≡ at (now (points .entry)) x ⌝ }
+{
+    if x == 0 {
+        return locator::point_at(points, 0);
+    }
+    locator::point_at(points, (x - 1) as usize)
+}
+
+// The points at four places.
+fn values_at(points: &[u16], x: Four) -> Four
+    ensures { λ r. ⌜ listed r ≡ map (at (now (points .entry))) (listed x) ⌝ }
+{
+    Four {
+        a: at_place(points, x.a),
+        b: at_place(points, x.b),
+        c: at_place(points, x.c),
+        d: at_place(points, x.d),
+    }
+}
+
+// Whether the point at place x is not blank and the locator is not 0 there.
+fn usable(points: &[u16], es: &[u16; 64], x: u16) -> bool
+    requires { ⌜ (1 ≤ x) × (x ≤ 32) ⌝ }
+    ensures { λ r. ⌜ r ≡ usableOf (now (points .entry)) (now (es .entry)) x ⌝ }
+{
+    let i = (x - 1) as usize;
+    if at_place(points, x) < 257 {
+        return es[i] != 0;
+    }
+    false
+}
+
+// The first usable place from `from` on; 33 or more if there is none.
+fn next(points: &[u16], es: &[u16; 64], from: u16) -> u16
+    requires { ⌜ (1 ≤ from) × (from ≤ 1000) ⌝ }
+    ensures { λ r. ⌜ Next (usableOf (now (points .entry)) (now (es .entry))) from r × (r ≤ from + 32) ⌝ }
+{
+    let mut x = from;
+    while x <= 32 {
+        if usable(points, es, x) {
+            return x;
+        }
+        x += 1;
+    }
+    x
+}
+
+// The first four usable places.
+fn places(points: &[u16], es: &[u16; 64]) -> Four
+    ensures { λ r. ⌜ Chain (usableOf (now (points .entry)) (now (es .entry))) 1 (listed r) ⌝ }
+{
+    let a = next(points, es, 1);
+    let b = next(points, es, a + 1);
+    let c = next(points, es, b + 1);
+    let d = next(points, es, c + 1);
+    Four {
+        a: a,
+        b: b,
+        c: c,
+        d: d,
+    }
+}
+
+// The polynomial of k coefficients through the points at the first usable places.
+fn candidate(k: usize, points: &[u16], es: &[u16; 64]) -> Coefficients
+    requires { ⌜ k ≤ 4 ⌝ }
+    ensures { λ r. ⌜ Candidate (now (points .entry)) (now (es .entry)) k r ⌝ }
+{
+    let x = places(points, es);
+    through(k, x, values_at(points, x))
+}
+
+// The answer for n points where nothing is refused: first the polynomial through the first points, then the one through the first
+// points that the locator leaves. If that one does not meet enough either, none does.
+fn answer(n: u8, points: &[u16]) -> Decoded
+    requires { ⌜ Accepts n (now points) ⌝ }
+    ensures { λ r. ⌜ r ≡ decoded n (now (points .entry)) ⌝ }
+{
+    let all = n as usize;
+    let t = sizes::faults(n);
+    let k = sizes::degree(n) + 1;
+    let need = all - t;
+    if present(all, points) < need {
+        return Decoded::Nothing;
+    }
+    let everywhere = [1u16; 64];
+    let quick = candidate(k, points, &everywhere);
+    if need <= hits(all, points, quick) {
+        return Decoded::Polynomial(quick);
+    }
+    let es = locator::locate((all - 2 * t - 1) as u8, points);
+    let last = candidate(k, points, &es);
+    if need <= hits(all, points, last) {
+        return Decoded::Polynomial(last);
+    }
+    Decoded::Nothing
+}
+
+// The polynomial of degree at most d that meets at least n - t of the n points, or none. It refuses n outside 4 to 31 with 1, and a
+// slice that does not hold n points with 4.
+pub fn decode(n: u8, points: &[u16]) -> Decoded
+    ensures { λ r. ⌜ r ≡ decoded n (now (points .entry)) ⌝ }
+{
+    let why = sizes::refusal(n, 1, 1);
+    if why != 0 {
+        return Decoded::Refused(why);
+    }
+    if points.len() != n as usize {
+        return Decoded::Refused(4);
+    }
+    answer(n, points)
 }

@@ -125,7 +125,7 @@ pub record Counted (P : ℕ → Bool) (n i k : ℕ) : Type 0 where
   pub holds : k ≡ count P i
   pub most : k ≤ i
 
-bit-most : (b : Bool) → bit b ≤ 1
+pub bit-most : (b : Bool) → bit b ≤ 1
 bit-most true = omega arith
 bit-most false = omega arith
 

@@ -49,7 +49,8 @@ fn products(a: u16, b: u16, c: u16, d: u16) -> u16
     )
 }
 
-fn point_at(points: &[u16], i: usize) -> u16
+// The point at index i; blank past the end.
+pub fn point_at(points: &[u16], i: usize) -> u16
     ensures { λ r. ⌜ r ≡ pointAt (now (points .entry)) i ⌝ }
 {
     if i < points.len() {

@@ -1,0 +1,20 @@
+-- `push` meets its contract.
+use borrow.Author.Needs.{needs}
+use Rattle.decoder.proofs.push.Statement.{statement}
+use Rattle.decoder.proofs.push.Tie as tie
+
+difference-requires : tie.Need-difference-requires
+difference-requires c κs = search needs
+
+difference-requires-2 : tie.Need-difference-requires-2
+difference-requires-2 c κs = search needs
+
+difference-requires-3 : tie.Need-difference-requires-3
+difference-requires-3 c κs = search needs
+
+returns : tie.Need-returns
+returns c = rw (c .before .before .before .difference .ensures, c .before .before .difference2 .ensures, c .before .difference3 .ensures)
+
+pub push-spec : {M : Type 1} → statement M
+push-spec =
+    tie.close (tie.spec difference-requires difference-requires-2 difference-requires-3 returns)

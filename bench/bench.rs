@@ -1,5 +1,6 @@
-//! The proved decoder and Gao's in Rust: first that they give the same answers, then how long each takes.
+//! The proved decoder and two of Gao's in Rust: first that they give the same answers, then how long each takes.
 mod gao;
+mod gao_tables;
 
 use std::hint::black_box;
 use std::time::Instant;
@@ -101,7 +102,7 @@ fn noise(n: usize, random: &mut Random) -> Vec<u16> {
     (0..n).map(|_| random.element()).collect()
 }
 
-/// Both decoders give the same answers, and these meet enough places.
+/// All decoders give the same answers, and these meet enough places.
 fn check(random: &mut Random) {
     let mut answers = [0, 0];
     for n in 4..=31 {
@@ -121,10 +122,10 @@ fn check(random: &mut Random) {
                     p[i] = [257, 65534, 65535, random.element()][random.below(4)];
                 }
             }
-            let (ours, gaos) = (proved(n, &p), gao::decode(n, &p));
+            let (ours, gaos, tables) = (proved(n, &p), gao::decode(n, &p), gao_tables::decode(n, &p));
             let meets = |c| (0..n).filter(|&i| value(&c, i) == p[i]).count();
-            if ours != gaos || ours.is_some_and(|c| meets(c) < n - t) {
-                println!("n = {n}, points {p:?}: the proved decoder says {ours:?}, Gao's {gaos:?}");
+            if ours != gaos || ours != tables || ours.is_some_and(|c| meets(c) < n - t) {
+                println!("n = {n}, points {p:?}: the proved decoder says {ours:?}, Gao's {gaos:?} and {tables:?}");
                 std::process::exit(1);
             }
             answers[ours.is_some() as usize] += 1;
@@ -135,7 +136,7 @@ fn check(random: &mut Random) {
 
 fn table(n: usize, random: &mut Random) {
     const INPUTS: usize = 1024;
-    const REPETITIONS: usize = 300;
+    const REPETITIONS: usize = 100;
     type Make = fn(usize, usize, &mut Random) -> Vec<u16>;
     let cases: [(&str, bool, Make); 8] = [
         ("no errors", true, |_, n, r| errors(At::First, 0, n, r)),
@@ -154,10 +155,10 @@ fn table(n: usize, random: &mut Random) {
         wanted.take(INPUTS).collect::<Vec<_>>().concat()
     });
     // The repetitions of a case are far apart, so that a busy moment of the machine spoils few of them.
-    let mut best = [[f64::INFINITY; 2]; 8];
+    let mut best = [[f64::INFINITY; 3]; 8];
     for _ in 0..REPETITIONS {
         for (best, inputs) in best.iter_mut().zip(&inputs) {
-            for (best, decode) in best.iter_mut().zip([proved as Decode, gao::decode]) {
+            for (best, decode) in best.iter_mut().zip([proved as Decode, gao::decode, gao_tables::decode]) {
                 let start = Instant::now();
                 for p in inputs.chunks_exact(n) {
                     black_box(decode(black_box(n), black_box(p)));
@@ -167,15 +168,17 @@ fn table(n: usize, random: &mut Random) {
         }
     }
     println!("\nn = {n}, t = {t}, {} coefficients:\n", t / 3 + 1);
-    println!("| case | proved decoder, ns | Gao in Rust, ns | ratio |\n| --- | ---: | ---: | ---: |");
-    for ((name, ..), [ours, gaos]) in cases.iter().zip(best) {
-        println!("| {name} | {ours:.0} | {gaos:.0} | {:.2} |", ours / gaos);
+    println!("| case | proved decoder, ns | Gao, ns | ratio | Gao by tables and SSE2, ns | ratio |\n| --- | ---: | ---: | ---: | ---: | ---: |");
+    for ((name, ..), [ours, gaos, tables]) in cases.iter().zip(best) {
+        println!("| {name} | {ours:.0} | {gaos:.0} | {:.2} | {tables:.0} | {:.2} |", ours / gaos, ours / tables);
     }
 }
 
 fn main() {
     let mut random = Random(0x9e37_79b9_7f4a_7c15);
     check(&mut random);
-    table(31, &mut random);
-    table(10, &mut random);
+    if std::env::args().nth(1).as_deref() != Some("check") {
+        table(31, &mut random);
+        table(10, &mut random);
+    }
 }

@@ -4,7 +4,10 @@ use mathlib.Core.List.{List, [], _∷_}
 use Prim.Native.Nat.{ℕ}
 use Rattle.field.specs.Field.{add, multiply, inverse, inverseBelow}
 use Rattle.block.specs.Block.{value}
+use Rattle.lists.specs.Lists.{count}
 use Rattle.sizes.specs.Sizes.{faults, degree, refusal, outside}
+use Rattle.decoder.specs.Decoder.{decoded, found, seek, through, under, slopes, answerOf, coefficients}
+use Rattle.decoder.specs.declared.Decoded.the-variants.{Polynomial, Nothing}
 
 -- t and d of n columns
 abbrev Gives : ℕ → ℕ → ℕ → Type 0
@@ -32,9 +35,14 @@ pub record Worked : Type 0 where
   pub inverse-of-2 : inverse 2 ≡ 129
   pub inverse-of-3 : inverse 3 ≡ 86
   pub inverse-of-256 : inverse 256 ≡ 256
+  -- "n = 10, points 5, 8, 11, 14, 17, 20, 23, 26, 29, 32: 2 + 3 times the point; still so with the first three blank; none with the
+  -- first four blank"
+  pub ten-points : decoded 10 (5 ∷ 8 ∷ 11 ∷ 14 ∷ 17 ∷ 20 ∷ 23 ∷ 26 ∷ 29 ∷ 32 ∷ []) ≡ Polynomial (coefficients (2 ∷ 3 ∷ []))
+  pub three-blank : decoded 10 (65535 ∷ 65535 ∷ 65535 ∷ 14 ∷ 17 ∷ 20 ∷ 23 ∷ 26 ∷ 29 ∷ 32 ∷ []) ≡ Polynomial (coefficients (2 ∷ 3 ∷ []))
+  pub four-blank : decoded 10 (65535 ∷ 65535 ∷ 65535 ∷ 65535 ∷ 17 ∷ 20 ∷ 23 ∷ 26 ∷ 29 ∷ 32 ∷ []) ≡ Nothing
 
 pub worked : Worked
-unfolding faults degree refusal outside value inverse inverseBelow
+unfolding faults degree refusal outside value inverse inverseBelow count decoded found seek through under slopes answerOf
 worked =
     record {
       sizes-of-4 = (refl, refl);
@@ -54,4 +62,7 @@ worked =
       inverse-of-2 = refl;
       inverse-of-3 = refl;
       inverse-of-256 = refl;
+      ten-points = refl;
+      three-blank = refl;
+      four-blank = refl;
     }

@@ -25,33 +25,36 @@ value-at t = and 1 value-kinds.ps (is 1 value-kinds.ps μ-value t) value.Pre
 abbrev value-below : ℕ → In 1 value-kinds.ps
 value-below t = and 1 value-kinds.ps (falls 1 value-kinds.ps _<_ μ-value t) value.Pre
 
+abbrev claims : ℕ → value-lts.Claims
+claims t = (value-below t, value.Post, joined-reads.Asked, joined-reads.Learnt)
+
 module _ (t : ℕ) where
-  returns : value-lts.Need-returns (value-below t, value.Post, joined-reads.Asked, joined-reads.Learnt) (value-at t) value.Post
+  returns : value-lts.Need-returns (claims t) (value-at t) value.Post
   returns c =
       let a = c .before .before .args in
       ap element (sym (value-none (a .bytes .now) (a .from) (a .count) (a .x .0) (c .if1 .taken)))
 
-  returns-2 : value-lts.Need-returns-2 (value-below t, value.Post, joined-reads.Asked, joined-reads.Learnt) (value-at t) value.Post
+  returns-2 : value-lts.Need-returns-2 (claims t) (value-at t) value.Post
   returns-2 c =
       let a = c .before .before .before .args in
       ap element (sym (value-past (a .bytes .now) (a .from) (a .count) (a .x .0) (c .if2 .taken)))
 
-  add-value : value-lts.Need-add-value (value-below t, value.Post, joined-reads.Asked, joined-reads.Learnt) (value-at t) value.Post
+  add-value : value-lts.Need-add-value (claims t) (value-at t) value.Post
   add-value c = omega arith
 
-  sub-value : value-lts.Need-sub-value (value-below t, value.Post, joined-reads.Asked, joined-reads.Learnt) (value-at t) value.Post
+  sub-value : value-lts.Need-sub-value (claims t) (value-at t) value.Post
   sub-value c = omega (arith, c .before .if1 .left)
 
-  value-requires : value-lts.Need-value-requires (value-below t, value.Post, joined-reads.Asked, joined-reads.Learnt) (value-at t) value.Post
+  value-requires : value-lts.Need-value-requires (claims t) (value-at t) value.Post
   value-requires c κs = (omega (arith, c .before .if1 .left, c .before .before .before .pre .0), tt)
 
-  read : value-lts.Need-shared-slice-read-joined (value-below t, value.Post, joined-reads.Asked, joined-reads.Learnt) (value-at t) value.Post
+  read : value-lts.Need-shared-slice-read-joined (claims t) (value-at t) value.Post
   read c = omega arith
 
-  joined-requires : value-lts.Need-joined-requires (value-below t, value.Post, joined-reads.Asked, joined-reads.Learnt) (value-at t) value.Post
+  joined-requires : value-lts.Need-joined-requires (claims t) (value-at t) value.Post
   joined-requires c κs = search needs
 
-  returns-3 : value-lts.Need-returns-3 (value-below t, value.Post, joined-reads.Asked, joined-reads.Learnt) (value-at t) value.Post
+  returns-3 : value-lts.Need-returns-3 (claims t) (value-at t) value.Post
   returns-3 c =
       let a = c .before .before .before .before .before .before .args in
       let more = value-more (a .bytes .now) (a .from) (a .count) (a .x .0) (c .before .before .before .before .if1 .left) in
@@ -60,5 +63,5 @@ module _ (t : ℕ) where
       ∙ ap element (sym more)
 
 pub +value-spec : {M : Type 1} → statement M
-+value-spec = close μ-value λ t. value-lts.spec (value-below t, value.Post, joined-reads.Asked, joined-reads.Learnt) (value-at t) value.Post
++value-spec = close μ-value λ t. value-lts.spec (claims t) (value-at t) value.Post
     (returns t) (returns-2 t) (add-value t) (sub-value t) (value-requires t) (read t) (joined-requires t) (returns-3 t)

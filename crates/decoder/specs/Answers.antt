@@ -22,9 +22,9 @@ use Rattle.sizes.specs.Sizes.{faults, degree}
 use Rattle.sizes.specs.Laws.{Sized, sized}
 use Rattle.locator.specs.Locator.{located}
 use Rattle.locator.specs.Located.{Locates, locates}
-use Rattle.decoder.specs.Decoder.{at, meetsAt, hits, through, coefficients, decoded, four}
+use Rattle.decoder.specs.Decoder.{at, meetsAt, hits, IsAnswer, through, coefficients, decoded, four}
 use Rattle.decoder.specs.Interpolation.{Rising, On, map-on, through-on, through-length, through-below}
-use Rattle.decoder.specs.Exactly.{IsAnswer, Accepts, is-answer, no-answer}
+use Rattle.decoder.specs.Exactly.{Accepts, is-answer, no-answer}
 use Rattle.decoder.specs.Places.{presentAt, usable, Chain, chain-take, Chosen, chain-chosen}
 use Rattle.decoder.specs.declared.Coefficients.{Coefficients}
 use Rattle.decoder.specs.declared.Decoded.{Decoded}

@@ -2,12 +2,12 @@
 use mathlib.Core.Bool.{Bool, cond}
 use mathlib.Core.List.{List, [], _∷_, map}
 use mathlib.Core.Option.{Option, none, some}
-use Prim.Native.Nat.{ℕ, zero, suc, _+_, _-_}
+use Prim.Native.Nat.{ℕ, zero, suc, _+_, _-_, _≤_}
 use lib.Dec.{eqb, leb}
 use lib.ListN.{length, getD, take}
-use Rattle.lists.specs.Lists.{count}
-use Rattle.field.specs.Field.{of, subtract, multiply, inverse}
-use Rattle.locator.specs.Locator.{pointAt}
+use mathlib.Core.Path.{_≡_}
+use Rattle.lists.specs.Lists.{count, Below}
+use Rattle.field.specs.Field.{of, subtract, multiply, inverse, blank}
 use Rattle.block.specs.Block.{value}
 use Rattle.sizes.specs.Sizes.{faults, degree, refusal}
 use Rattle.decoder.specs.declared.Coefficients.{Coefficients}
@@ -16,14 +16,25 @@ use Rattle.decoder.specs.declared.Decoded.the-variants.{Polynomial, Noth
 
 -- the point at place x, counted from 1; blank past the end
 abbrev pub at : List ℕ → ℕ → ℕ
-at points x = pointAt points (x - 1)
+at points x = getD points (x - 1) blank
 
--- at how many of the places 1 to n the polynomial meets y. "A blank meets none": a value is below 257, a blank is not
+-- the polynomial f meets y at x. "A blank meets none": a value is below 257, and a blank is not
 abbrev pub meetsAt : List ℕ → (ℕ → ℕ) → ℕ → Bool
 meetsAt f y x = eqb (value f x) (y x)
 
+-- at how many of the places 1 to n
 abbrev pub hits : List ℕ → (ℕ → ℕ) → ℕ → ℕ
 hits f y n = count (meetsAt f y) n
+
+-- f has k coefficients below 257 and meets y at `need` of the places 1 to n
+pub record Answer (n need k : ℕ) (y : ℕ → ℕ) (f : List ℕ) : Type 0 where
+  pub size : length f ≡ k
+  pub small : Below 257 f
+  pub meets : need ≤ hits f y n
+
+-- "the polynomial of degree at most d that meets at least n - t of them"
+abbrev pub IsAnswer : ℕ → List ℕ → List ℕ → Type 0
+IsAnswer n points f = Answer n (n - faults n) (degree n + 1) (at points) f
 
 -- INTERPOLATION
 

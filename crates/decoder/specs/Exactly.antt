@@ -1,5 +1,5 @@
--- THE THEOREM of the definition `decoded`: it gives f exactly when f has d + 1 coefficients below 257 and meets at least n - t of the n
--- points, and none exactly when no such f exists; it refuses exactly when n is outside 4 to 31 (1) or there are not n points (4).
+-- THE THEOREM of the definition `decoded`, `exactly`: for n points, 4 to 31, it gives f exactly when f has d + 1 coefficients below 257
+-- and meets at least n - t of them, and none exactly when no such f exists. Otherwise it refuses: `refused-1`, `refused-4`.
 use mathlib.Core.Path.{_≡_, refl, sym, ap, _∙_}
 use mathlib.Core.Logic.{_↔_, _⊎_, inl, inr}
 use mathlib.Core.Bool.{Bool, true, false, cond}
@@ -10,21 +10,14 @@ use native.Mathlib.Omega.{arith}
 use borrow.Author.Tests.{eq-eqb, ne-eqb}
 use lib.Dec.{T, eqb, eqb→eq}
 use lib.ListN.{length, getD, take}
-use Rattle.lists.specs.Lists.{Below}
 use Rattle.block.specs.Block.{value}
 use Rattle.block.specs.Value.{value-lt}
 use Rattle.sizes.specs.Sizes.{faults, degree, refusal}
 use Rattle.sizes.specs.Laws.{Sized, sized, Accepted, accepted as sizes-accepted, columns-accepted, columns-refused}
-use Rattle.decoder.specs.Decoder.{at, meetsAt, hits, seek, found, coefficients, answerOf, decoded, refusalOf, four, polynomialOf}
-use Rattle.decoder.specs.Search.{Answer, seek-finds, seek-answers}
+use Rattle.decoder.specs.Decoder.{at, meetsAt, IsAnswer, seek, found, coefficients, answerOf, decoded, refusalOf, four, polynomialOf}
+use Rattle.decoder.specs.Search.{seek-finds, seek-answers}
 use Rattle.decoder.specs.declared.Decoded.{Decoded}
 use Rattle.decoder.specs.declared.Decoded.the-variants.{Polynomial, Nothing, Refused}
-
--- f is a polynomial of degree at most d that meets at least n - t of the n points
-pub record IsAnswer (n : ℕ) (points f : List ℕ) : Type 0 where
-  pub size : length f ≡ degree n + 1
-  pub small : Below 257 f
-  pub meets : n - faults n ≤ hits f (at points) n
 
 -- a blank is met by no polynomial
 pub blank-unmet : (points f : List ℕ) (x : ℕ) → 257 ≤ at points x → T (meetsAt f (at points) x) → ⊥
@@ -59,20 +52,14 @@ module _ (n : ℕ) (points : List ℕ) where
     unfolding decoded
     in-range = rw (eq-eqb (refusal n 1 1) 0 (columns-accepted n (a .low) (a .high)), eq-eqb (length points) n (a .full))
 
-    to : (f : List ℕ) → IsAnswer n points f → Answer n (n - faults n) (degree n + 1) (at points) f
-    to f i = record { long = i .size; small = i .small; meets = i .meets }
-
-    back : (f : List ℕ) → Answer n (n - faults n) (degree n + 1) (at points) f → IsAnswer n points f
-    back f i = record { size = i .long; small = i .small; meets = i .meets }
-
     found-answer : (f : List ℕ) → IsAnswer n points f → found n points ≡ some f
     unfolding found
     found-answer f i =
-        seek-finds n (n - faults n) (degree n + 1) (at points) (omega (arith, a .high)) (omega arith) (omega (arith, sizes .room)) f (to f i)
+        seek-finds n (n - faults n) (degree n + 1) (at points) (omega (arith, a .high)) (omega arith) (omega (arith, sizes .room)) f i
 
     answer-found : (f : List ℕ) → found n points ≡ some f → IsAnswer n points f
     unfolding found
-    answer-found f e = back f (seek-answers n (n - faults n) (degree n + 1) (at points) f e)
+    answer-found f e = seek-answers n (n - faults n) (degree n + 1) (at points) f e
 
     -- the answer is the definition's
     pub is-answer : (f : List ℕ) → IsAnswer n points f → decoded n points ≡ Polynomial (coefficients f)

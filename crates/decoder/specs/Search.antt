@@ -14,14 +14,8 @@ use Rattle.lists.specs.Tests.{imp, to-imp, eq→eqb, conj}
 use Rattle.lists.specs.Count.{count-all, law-if}
 use Rattle.block.specs.Block.{value, meet}
 use Rattle.block.specs.Apart.{unique}
-use Rattle.decoder.specs.Decoder.{meetsAt, hits, through, enough, orElse, seek}
+use Rattle.decoder.specs.Decoder.{meetsAt, hits, Answer, through, enough, orElse, seek}
 use Rattle.decoder.specs.Interpolation.{Rising, On, lower, map-on, through-on, through-length, through-below}
-
--- an answer: a polynomial of k coefficients that meets y at `need` of the places 1 to n
-pub record Answer (n need k : ℕ) (y : ℕ → ℕ) (p : List ℕ) : Type 0 where
-  pub long : length p ≡ k
-  pub small : Below 257 p
-  pub meets : need ≤ hits p y n
 
 module _ (n need k : ℕ) (y : ℕ → ℕ) where
   enough-sound : (p q : List ℕ) → length p ≡ k → Below 257 p → enough n y need p ≡ some q → Answer n need k y q
@@ -30,7 +24,7 @@ module _ (n need k : ℕ) (y : ℕ → ℕ) where
       go : (b : Bool) → leb need (hits p y n) ≡ b → cond b (some p) none ≡ some q → Answer n need k y q
       go true e f =
           let same : p ≡ q = cc in
-          let good : Answer n need k y p = record { long = l; small = s; meets = leb→le need (hits p y n) (rw e tt) } in
+          let good : Answer n need k y p = record { size = l; small = s; meets = leb→le need (hits p y n) (rw e tt) } in
           rw same at good
       go false e f = let z : _≡_ {A = ℕ} 0 1 = cc in absurd (omega arith)
 
@@ -49,10 +43,10 @@ module _ (n need k : ℕ) (y : ℕ → ℕ) where
   module _ (hn : n < 257) (few : need ≤ n) (room : k + n ≤ 2 * need) where
     pub one-answer : (p q : List ℕ) → Answer n need k y p → Answer n need k y q → p ≡ q
     one-answer p q a b =
-        unique p q n hn (a .small) (b .small) (omega (arith, a .long, b .long))
+        unique p q n hn (a .small) (b .small) (omega (arith, a .size, b .size))
         (omega (
           arith,
-          a .long,
+          a .size,
           a .meets,
           b .meets,
           count-all n,
@@ -71,7 +65,7 @@ module _ (n need k : ℕ) (y : ℕ → ℕ) where
 
       seek-hit : (i j : ℕ) (xs : List ℕ) → length xs + j ≡ k → i < 257 → Rising (suc i) xs → On xs y p → j ≤ hits p y i → seek n y need i j xs ≡ some p
       unfolding seek count
-      seek-hit i zero xs l hi r o h = rw (map-on xs y p o, through-on xs p (suc i) (omega (arith, a .long)) (a .small) r) enough-hit
+      seek-hit i zero xs l hi r o h = rw (map-on xs y p o, through-on xs p (suc i) (omega (arith, a .size)) (a .small) r) enough-hit
       seek-hit zero (suc j) xs l hi r o h = absurd (omega arith)
       seek-hit (suc i) (suc j) xs l hi r o h =
           go (eqb (value p (suc i)) (y (suc i))) refl (seek n y need i j (suc i ∷ xs)) refl (seek-hit i j (suc i ∷ xs)) (seek-hit i (suc j) xs)

@@ -70,6 +70,7 @@ fn hits(n: usize, points: &[u16], c: Coefficients) -> usize
     sum
 }
 
+// 1 for a point, 0 for a blank.
 fn one_if_point(y: u16) -> usize
     ensures { λ r. ⌜ r ≡ bit (ltb y 257) ⌝ }
 {
@@ -117,6 +118,7 @@ fn slopes(k: usize, x: Four, v: Four) -> Four
     }
 }
 
+// v minus r times c.
 fn difference(v: u16, r: u16, c: u16) -> u16
     ensures { λ s. ⌜ s ≡ subtract v (multiply r c) ⌝ }
 {
@@ -136,6 +138,7 @@ fn push(v: u16, r: u16, q: Coefficients) -> Coefficients
     }
 }
 
+// All but the first.
 fn tail(x: Four) -> Four
     ensures { λ r. ⌜ r ≡ tailOf x ⌝ }
 {

@@ -1,5 +1,6 @@
-// An error locator for points of which some are wrong: the values, at the places, of a polynomial e that is 0 wherever a point is
-// wrong, if few enough are (Welch and Berlekamp's interpolation, in Koetter's form, without a division). specs/Locator.antt says how.
+// An error locator: of points that may be wrong or blank, the values of a polynomial e at their places. If some polynomial of low degree
+// meets enough of the points, it meets every point at which e is not 0, and those are enough to know it by. (Welch and Berlekamp's
+// interpolation in Koetter's form, without a division; specs/Locator.antt says how.)
 use field::Field;
 ghost use mathlib.Core.Path.{_≡_};
 ghost use mathlib.Core.Bool.{Bool};
@@ -59,6 +60,7 @@ pub fn point_at(points: &[u16], i: usize) -> u16
     Field::BLANK
 }
 
+// A number of the pair e = 0, q = 1.
 fn one_at(i: usize) -> u16
     ensures { λ r. ⌜ r ≡ oneAt i ⌝ }
 {
@@ -68,7 +70,6 @@ fn one_at(i: usize) -> u16
     1
 }
 
-// The pair e = 0, q = 1.
 fn one() -> [u16; 64]
     ensures { λ r. ⌜ r ≡ listOf oneAt 64 ⌝ }
 {
@@ -79,6 +80,7 @@ fn one() -> [u16; 64]
     pair
 }
 
+// A number of the pair e = 1, q = 0.
 fn points_at(points: &[u16], i: usize) -> u16
     ensures { λ r. ⌜ r ≡ pointsAt (now (points .entry)) i ⌝ }
 {
@@ -89,7 +91,6 @@ fn points_at(points: &[u16], i: usize) -> u16
     negated.0
 }
 
-// The pair e = 1, q = 0.
 fn zero(points: &[u16]) -> [u16; 64]
     ensures { λ r. ⌜ r ≡ listOf (pointsAt (now (points .entry))) 64 ⌝ }
 {
@@ -110,6 +111,7 @@ fn mix(other: &mut [u16; 64], a: u16, b: u16, lead: &[u16; 64])
     }
 }
 
+// v times the place of index i less another, of which 257 less is `minus`.
 fn raised_at(minus: u16, i: usize, v: u16) -> u16
     requires { ⌜ (225 ≤ minus) × (minus < 257) × (v < 257) ⌝ }
     ensures { λ r. ⌜ r ≡ multiply ((i % 32 + 1 + minus) % 257) v ⌝ }

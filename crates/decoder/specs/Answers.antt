@@ -1,19 +1,19 @@
 -- Why each answer that the code gives is the definition's.
 use mathlib.Core.Path.{_≡_, refl, sym, ap, _∙_}
-use mathlib.Core.Bool.{Bool, true, false, not, _&&_}
+use mathlib.Core.Bool.{Bool, not, _&&_}
 use mathlib.Core.List.{List, [], _∷_, map}
-use Prim.Native.Nat.{ℕ, zero, suc, _+_, _-_, _*_, _%_, _≤_, _<_}
-use native.Mathlib.Nat.{mod-eq-of-lt, mul-comm, mul-zero, eq-or-lt-of-le}
-use native.Mathlib.Decide.{decLe, decLt}
+use Prim.Native.Nat.{ℕ, suc, _+_, _-_, _*_, _≤_, _<_}
+use native.Mathlib.Nat.{mod-eq-of-lt, mul-comm, mul-zero}
+use native.Mathlib.Decide.{decLe}
 use native.Mathlib.Omega.{arith}
-use lib.Dec.{T, T-not, not-T, eqb, eqb→eq, ltb, ltb→lt, lt→ltb, leb, le→leb}
+use lib.Dec.{T, T-not, eqb, eqb→eq, ltb, ltb→lt, lt→ltb, leb, le→leb}
 use lib.ListN.{length, length-map, getD, take, List·getD-eq-default}
 use lib.Seq.{length-take-le}
-use Rattle.lists.specs.Lists.{count, Below}
+use Rattle.lists.specs.Lists.{count}
 use Rattle.lists.specs.Tests.{and-left, and-right, and-both, eq→eqb}
 use Rattle.lists.specs.Count.{mono, cover, longer, count-same}
 use Rattle.field.specs.Field.{of, blank}
-use Rattle.field.specs.Congruence.{_≋_, times, scale}
+use Rattle.field.specs.Congruence.{_≋_}
 use Rattle.field.specs.Laws.{cancel}
 use Rattle.block.specs.Block.{value, meet}
 use Rattle.block.specs.Value.{value-lt}
@@ -27,8 +27,7 @@ use Rattle.decoder.specs.Interpolation.{Rising, On, map-on, through-on, 
 use Rattle.decoder.specs.Exactly.{Accepts, is-answer, no-answer}
 use Rattle.decoder.specs.Places.{presentAt, usable, Chain, chain-take, Chosen, chain-chosen}
 use Rattle.decoder.specs.declared.Coefficients.{Coefficients}
-use Rattle.decoder.specs.declared.Decoded.{Decoded}
-use Rattle.decoder.specs.declared.Decoded.the-variants.{Polynomial, Nothing, Refused}
+use Rattle.decoder.specs.declared.Decoded.the-variants.{Polynomial, Nothing}
 
 -- FOUR COEFFICIENTS FOR AT MOST FOUR
 

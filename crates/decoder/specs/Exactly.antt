@@ -1,22 +1,20 @@
 -- THE THEOREM of the definition `decoded`, `exactly`: for n points, 4 to 31, it gives f exactly when f has d + 1 coefficients below 257
 -- and meets at least n - t of them, and none exactly when no such f exists. Otherwise it refuses: `refused-1`, `refused-4`.
 use mathlib.Core.Path.{_≡_, refl, sym, ap, _∙_}
-use mathlib.Core.Logic.{_↔_, _⊎_, inl, inr}
-use mathlib.Core.Bool.{Bool, true, false, cond}
+use mathlib.Core.Logic.{_↔_, _⊎_}
 use mathlib.Core.List.{List, [], _∷_}
 use mathlib.Core.Option.{Option, none, some}
-use Prim.Native.Nat.{ℕ, zero, suc, _+_, _-_, _*_, _≤_, _<_}
+use Prim.Native.Nat.{ℕ, _+_, _-_, _≤_, _<_}
 use native.Mathlib.Omega.{arith}
 use borrow.Author.Tests.{eq-eqb, ne-eqb}
 use lib.Dec.{T, eqb, eqb→eq}
-use lib.ListN.{length, getD, take}
+use lib.ListN.{length, take}
 use Rattle.block.specs.Block.{value}
 use Rattle.block.specs.Value.{value-lt}
 use Rattle.sizes.specs.Sizes.{faults, degree, refusal}
-use Rattle.sizes.specs.Laws.{Sized, sized, Accepted, accepted as sizes-accepted, columns-accepted, columns-refused}
-use Rattle.decoder.specs.Decoder.{at, meetsAt, IsAnswer, seek, found, coefficients, answerOf, decoded, refusalOf, four, polynomialOf}
+use Rattle.sizes.specs.Laws.{Sized, sized, accepted as sizes-accepted, columns-accepted, columns-refused}
+use Rattle.decoder.specs.Decoder.{at, meetsAt, IsAnswer, found, coefficients, answerOf, decoded, refusalOf, four, polynomialOf}
 use Rattle.decoder.specs.Search.{seek-finds, seek-answers}
-use Rattle.decoder.specs.declared.Decoded.{Decoded}
 use Rattle.decoder.specs.declared.Decoded.the-variants.{Polynomial, Nothing, Refused}
 
 -- a blank is met by no polynomial

@@ -1,5 +1,5 @@
 -- Interpolation: the polynomial through k values of a polynomial of k coefficients is that polynomial.
-use mathlib.Core.Path.{_≡_, refl, sym, ap, ap₂, _∙_}
+use mathlib.Core.Path.{_≡_, refl, ap, ap₂, _∙_}
 use mathlib.Core.List.{List, [], _∷_, map}
 use Prim.Native.Nat.{ℕ, zero, suc, _+_, _-_, _*_, _/_, _%_, _≤_, _<_}
 use native.Mathlib.Nat.{mod-lt, mod-eq-of-lt}
@@ -8,7 +8,7 @@ use lib.Dec.{lit<}
 use lib.ListN.{length}
 use Rattle.lists.specs.Lists.{Below}
 use Rattle.field.specs.Field.{of, subtract, multiply, inverse}
-use Rattle.field.specs.Congruence.{_≋_, with-multiples, by-multiples, reduce, times}
+use Rattle.field.specs.Congruence.{_≋_, with-multiples, by-multiples, times}
 use Rattle.field.specs.Laws.{inverse-small}
 use Rattle.block.specs.Block.{value}
 use Rattle.block.specs.Value.{value-lt, value-cons}

@@ -2,15 +2,15 @@
 // many is the answer, however it was found. Where the one through the first points does not, an error locator says which points to trust.
 use field::Field;
 ghost use mathlib.Core.Path.{_≡_};
-ghost use mathlib.Core.Bool.{Bool, cond};
-ghost use mathlib.Core.List.{List, map};
-ghost use Prim.Native.Nat.{ℕ, _+_, _-_, _<_, _≤_};
+ghost use mathlib.Core.Bool.{cond};
+ghost use mathlib.Core.List.{map};
+ghost use Prim.Native.Nat.{_+_, _-_, _<_, _≤_};
 ghost use lib.Dec.{eqb, ltb};
 ghost use lib.ListN.{length, take};
 ghost use Rattle.lists.specs.Lists.{bit, count};
 ghost use Rattle.field.specs.Field.{subtract, multiply};
 ghost use Rattle.block.specs.Block.{value as valueOf};
-ghost use Rattle.decoder.specs.Decoder.{at, meetsAt, hits as hitsOf, slope as slopeOf, slopes as slopesOf, through as throughOf, coefficients, four, decoded};
+ghost use Rattle.decoder.specs.Decoder.{at, hits as hitsOf, slope as slopeOf, slopes as slopesOf, through as throughOf, coefficients, four, decoded};
 ghost use Rattle.decoder.specs.Exactly.{Accepts};
 ghost use Rattle.decoder.specs.Places.{presentAt, usable as usableOf, Next, Chain};
 ghost use Rattle.decoder.specs.Answers.{Candidate};

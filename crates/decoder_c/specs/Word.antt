@@ -1,5 +1,5 @@
 -- 2^60 and a polynomial's coefficients, 14 bits for each from the lowest on; 0 for none; 2^61 and a refusal's number
-use Prim.Native.Nat.{ℕ, _+_, _*_, _^_}
+use Prim.Native.Nat.{ℕ, _+_, _*_}
 use Rattle.decoder.specs.declared.Decoded.{Decoded}
 use Rattle.decoder.specs.declared.Decoded.the-variants.{Polynomial, Nothing, Refused}
 

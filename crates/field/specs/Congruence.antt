@@ -1,6 +1,6 @@
 -- Equal modulo 257, on unreduced numbers. A congruence is crossed with an equation that names the multiples of 257, and back;
 -- `omega` does what lies between.
-use mathlib.Core.Path.{_≡_, refl, sym, ap, _∙_}
+use mathlib.Core.Path.{_≡_, sym, ap, _∙_}
 use Prim.Native.Nat.{ℕ, _+_, _*_, _/_, _%_}
 use native.Mathlib.Nat.{mod-mod, add-mul-mod-self-left, mul-comm}
 use native.Mathlib.Omega.{arith}

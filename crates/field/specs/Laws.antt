@@ -3,7 +3,7 @@ use mathlib.Core.Path.{_≡_, refl, sym, ap, _∙_}
 use mathlib.Core.Logic.{_⊎_, inl, inr}
 use mathlib.Core.Bool.{Bool, true, false, cond, _&&_}
 use mathlib.Core.List.{List}
-use Prim.Native.Nat.{ℕ, zero, suc, _+_, _-_, _*_, _/_, _%_, _≤_, _<_}
+use Prim.Native.Nat.{ℕ, zero, suc, _+_, _-_, _*_, _≤_, _<_}
 use native.Mathlib.Nat.{mod-lt, mod-eq-of-lt, eq-zero-or-pos, mul-comm, mul-assoc}
 use native.Mathlib.Omega.{arith}
 use lib.Dec.{T, eqb, ltb, eqb→eq, ltb→lt, lit<}
@@ -12,7 +12,7 @@ use Rattle.lists.specs.Lists.{all}
 use Rattle.lists.specs.Entries.{all-each}
 use Rattle.lists.specs.Tests.{and-left, and-right, passes}
 use Rattle.field.specs.Field.{of, add, subtract, multiply, inverse, inverseBelow, inverseEntry, inverseTable}
-use Rattle.field.specs.Congruence.{_≋_, with-multiples, by-multiples, reduce, scale, times}
+use Rattle.field.specs.Congruence.{_≋_, reduce, scale, times}
 
 -- A COMMUTATIVE RING
 

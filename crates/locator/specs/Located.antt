@@ -5,22 +5,21 @@ use mathlib.Core.Path.{_≡_, refl, sym, ap, _∙_}
 use mathlib.Core.Logic.{_⊎_, inl, inr, ⊎-elim}
 use mathlib.Core.Bool.{Bool, true, false, cond, not, _&&_, _||_}
 use mathlib.Core.List.{List, [], _∷_}
-use Prim.Native.Nat.{ℕ, zero, suc, _+_, _-_, _*_, _%_, _≤_, _<_}
+use Prim.Native.Nat.{ℕ, zero, suc, _+_, _-_, _*_, _≤_, _<_}
 use native.Mathlib.Nat.{eq-or-lt-of-le, le-of-suc-le-suc}
-use native.Mathlib.Numerals.{add-one}
 use native.Mathlib.Decide.{decLt}
 use native.Mathlib.Omega.{arith}
 use borrow.Author.Tests.{leb-true, leb-false, eqb-true, eqb-false, lt-ltb, le-ltb}
-use lib.Dec.{eqb, leb, ltb, lit<}
+use lib.Dec.{eqb, leb}
 use lib.ListN.{length, getD, List·getD-eq-default}
 use Rattle.lists.specs.Lists.{listOf}
 use Rattle.lists.specs.Entries.{getD-listOf}
-use Rattle.field.specs.Field.{of, subtract, multiply, blank}
+use Rattle.field.specs.Field.{of, subtract, blank}
 use Rattle.field.specs.Congruence.{_≋_}
 use Rattle.block.specs.Block.{value}
-use Rattle.locator.specs.Locator.{pointAt, discrepancy, Run, oneAt, pointsAt, start, firstLeads, secondLeads, turn, run, lighter, located}
-use Rattle.locator.specs.Held.{Held, held-one, held-points}
-use Rattle.locator.specs.Steps.{Pair, Apart, Free, Cleared, raised-pair, cleared-pair, turned-apart}
+use Rattle.locator.specs.Locator.{pointAt, discrepancy, Run, oneAt, pointsAt, start, firstLeads, secondLeads, turn, run, located}
+use Rattle.locator.specs.Held.{held-one, held-points}
+use Rattle.locator.specs.Steps.{Pair, Apart, Free, raised-pair, cleared-pair, turned-apart}
 
 -- both pairs after the first j places
 pub record Good (w n : ℕ) (points : List ℕ) (s : Run) (j : ℕ) : Type 0 where

@@ -1,22 +1,21 @@
 -- What one turn does to a pair: the polynomials behind its 64 numbers.
 use mathlib.Core.Path.{_≡_, refl, sym, ap, ap₂, _∙_}
 use mathlib.Core.Logic.{_⊎_, inl, inr, ⊎-elim}
-use mathlib.Core.List.{List, [], _∷_}
-use Prim.Native.Nat.{ℕ, zero, suc, _+_, _-_, _*_, _/_, _%_, _≤_, _<_}
-use native.Mathlib.Nat.{mod-lt, eq-zero-or-pos, eq-or-lt-of-le, le-of-suc-le-suc}
-use native.Mathlib.Decide.{decLt}
+use mathlib.Core.List.{List}
+use Prim.Native.Nat.{ℕ, suc, _+_, _-_, _*_, _%_, _≤_, _<_}
+use native.Mathlib.Nat.{eq-zero-or-pos, eq-or-lt-of-le, le-of-suc-le-suc}
 use native.Mathlib.Omega.{arith}
 use lib.Dec.{lit<}
-use lib.ListN.{length, getD, List·getD-eq-default}
-use Rattle.lists.specs.Lists.{Below, listOf}
+use lib.ListN.{length, getD}
+use Rattle.lists.specs.Lists.{Below}
 use Rattle.lists.specs.Entries.{getD-listOf}
-use Rattle.field.specs.Field.{of, add, subtract, multiply}
-use Rattle.field.specs.Congruence.{_≋_, with-multiples, by-multiples, reduce, plus, scale, times, products}
+use Rattle.field.specs.Field.{of, subtract, multiply}
+use Rattle.field.specs.Congruence.{_≋_, reduce, plus, scale, times, products}
 use Rattle.field.specs.Laws.{cancel}
 use Rattle.block.specs.Block.{value}
 use Rattle.block.specs.Value.{value-lt}
 use Rattle.block.specs.Algebra.{sum, scale as scaled, raised as raisedBy, value-sum, value-scale, value-raised, length-sum, length-scale, length-raised, length-raised-none}
-use Rattle.locator.specs.Held.{Held, held-cleared, held-raised}
+use Rattle.locator.specs.Held.{held-cleared, held-raised}
 use Rattle.locator.specs.Locator.{pointAt, discrepancy, mixedAt, cleared, raisedAt, raised}
 
 -- ARITHMETIC

@@ -3,14 +3,12 @@
 // interpolation in Koetter's form, without a division; specs/Locator.antt says how.)
 use field::Field;
 ghost use mathlib.Core.Path.{_≡_};
-ghost use mathlib.Core.Bool.{Bool};
-ghost use Prim.Native.Nat.{ℕ, _+_, _%_, _<_, _≤_};
-ghost use lib.ListN.{getD};
+ghost use Prim.Native.Nat.{_+_, _%_, _<_, _≤_};
 ghost use Rattle.lists.specs.Lists.{listOf};
 ghost use Rattle.locator.specs.Held.{Held, runOf};
 ghost use Rattle.field.specs.Field.{add, subtract, multiply};
 ghost use Rattle.field.specs.Congruence.{_≋_};
-ghost use Rattle.locator.specs.Locator.{Run, pointAt, oneAt, pointsAt, mixedAt, cleared, raisedAt, raised, leads as leadsOf, turn as turnOf, located};
+ghost use Rattle.locator.specs.Locator.{pointAt, oneAt, pointsAt, mixedAt, cleared, raised, leads as leadsOf, turn as turnOf, located};
 
 // How heavy the two pairs are.
 struct Weights {

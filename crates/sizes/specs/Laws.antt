@@ -1,13 +1,12 @@
 -- The laws of the sizes.
-use mathlib.Core.Path.{_≡_, refl, ap, ap₂, sym, _∙_}
+use mathlib.Core.Path.{_≡_, refl}
 use mathlib.Core.Bool.{Bool, true, false, cond, _||_, true≢false}
 use mathlib.Core.Logic.{_⊎_, inl, inr}
 use Prim.Native.Nat.{ℕ, zero, suc, _+_, _-_, _*_, _/_, _≤_, _<_}
 use native.Mathlib.Nat.{eq-zero-or-pos, div-mul-le-self, div-eq-of-lt, le-div-iff-mul-le, lt-div-mul-add, div-le-of-le-mul, mul-le-mul-left}
-use native.Mathlib.Numerals.{add-one}
 use native.Mathlib.Omega.{arith}
 use borrow.Author.Tests.{ltb-false, lt-ltb, le-ltb, le-leb, lt-leb, eq-eqb, ne-eqb}
-use lib.Dec.{eqb, ltb, leb}
+use lib.Dec.{ltb}
 use Rattle.lists.specs.Lists.{sum}
 use Rattle.lists.specs.Entries.{sum-more}
 use Rattle.sizes.specs.Sizes.{faults, degree, blocks, rounds, values, line, outside, refusal}

@@ -1,6 +1,6 @@
 -- Document 01, "Sizes of a wall" and "Worked values", in their order. Each is shown by computing with the definitions.
 use mathlib.Core.Path.{_≡_, refl}
-use mathlib.Core.List.{List, [], _∷_}
+use mathlib.Core.List.{[], _∷_}
 use Prim.Native.Nat.{ℕ}
 use Rattle.field.specs.Field.{add, multiply, inverse, inverseBelow}
 use Rattle.block.specs.Block.{value}

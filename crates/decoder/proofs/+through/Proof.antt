@@ -1,5 +1,5 @@
 -- `through` calls itself with one place less: the measure is k.
-use mathlib.Core.Path.{_≡_, sym, ap, ap₂, _∙_}
+use mathlib.Core.Path.{sym, ap, _∙_}
 use Prim.Native.Nat.{ℕ, _<_, _-_}
 use native.Mathlib.Omega.{arith}
 use borrow.Author.Needs.{needs}
@@ -7,7 +7,7 @@ use borrow.Fn.Kinds.{In}
 use borrow.Fn.PlainCycle.{Measures, is, falls, and}
 use lib.ListN.{take}
 use Rattle.decoder.specs.Decoder.{coefficients, through as throughOf}
-use Rattle.decoder.specs.Steps.{listed, tailOf, pushed, through-none, through-step}
+use Rattle.decoder.specs.Steps.{listed, pushed, through-none, through-step}
 use Rattle.decoder.specs.declared.Coefficients.{Coefficients}
 use Rattle.decoder.specs.declared.Four.{Four}
 use Rattle.decoder.proofs.through.Reads as through

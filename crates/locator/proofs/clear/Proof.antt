@@ -1,6 +1,6 @@
 -- `clear` meets its contract.
 use mathlib.Core.Path.{ap, _∙_}
-use Prim.Native.Nat.{ℕ, _+_, _%_, _-_}
+use Prim.Native.Nat.{_+_, _%_, _-_}
 use native.Mathlib.Nat.{mod-lt}
 use lib.Dec.{lit<}
 use Rattle.lists.specs.Lists.{listOf}

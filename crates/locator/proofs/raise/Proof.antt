@@ -2,7 +2,6 @@
 use mathlib.Core.Path.{_≡_, refl, ap₂, _∙_}
 use Prim.Native.Nat.{ℕ, _+_, _-_, _%_}
 use native.Mathlib.Omega.{arith}
-use lib.ListN.{getD}
 use Rattle.lists.specs.Loops.{Filled, filled-none, filled-read, filled-more, filled-done}
 use Rattle.field.specs.Field.{subtract, multiply}
 use Rattle.locator.specs.Locator.{raisedAt, raised}

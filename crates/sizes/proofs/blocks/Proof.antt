@@ -1,7 +1,5 @@
 -- `blocks` meets its contract: the sums are small.
-use mathlib.Core.Path.{ap, refl}
 use native.Mathlib.Omega.{arith}
-use Prim.Native.Nat.{ℕ, _+_, _/_}
 use Rattle.sizes.specs.Sizes.{blocks}
 use Rattle.sizes.specs.Laws.{degree-le}
 use borrow.Author.Needs.{needs}

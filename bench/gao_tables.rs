@@ -1,9 +1,5 @@
 //! Gao's decoder written for the machine: Lagrange tables for the places 1 to 31 and SSE2 instructions by hand. It shows how far
 //! one can go; the one that a programmer would write is in gao.rs. For x86-64, like the library it is compared with.
-//!
-//! Tried as well, with their time at n = 31 and t errors over this one's: Newton interpolation and plain loops over
-//! u32, 9; interpolation by sums that the compiler vectorises, of i16 by rows 1.5 or by columns 1.3, of f32 1.15;
-//! Euclid without the look ahead, 1.08; coefficients in strides, so that a shift by one is a whole vector, 1.1.
 
 use std::arch::x86_64::*;
 

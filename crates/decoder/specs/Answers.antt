@@ -7,24 +7,23 @@ use native.Mathlib.Nat.{mod-eq-of-lt, mul-comm, mul-zero}
 use native.Mathlib.Decide.{decLe}
 use native.Mathlib.Omega.{arith}
 use lib.Dec.{T, T-not, eqb, eqb→eq, ltb, ltb→lt, lt→ltb, leb, le→leb}
-use lib.ListN.{length, length-map, getD, take, List·getD-eq-default}
+use lib.ListN.{length, length-map, getD, take}
 use lib.Seq.{length-take-le}
 use Rattle.lists.specs.Lists.{count}
 use Rattle.lists.specs.Tests.{and-left, and-right, and-both, eq→eqb}
 use Rattle.lists.specs.Count.{mono, cover, longer, count-same}
-use Rattle.field.specs.Field.{of, blank}
+use Rattle.field.specs.Field.{of}
 use Rattle.field.specs.Congruence.{_≋_}
 use Rattle.field.specs.Laws.{cancel}
 use Rattle.block.specs.Block.{value, meet}
 use Rattle.block.specs.Value.{value-lt}
 use Rattle.block.specs.Algebra.{product, value-product, length-product, same-values}
 use Rattle.sizes.specs.Sizes.{faults, degree}
-use Rattle.sizes.specs.Laws.{Sized, sized}
 use Rattle.locator.specs.Locator.{located}
-use Rattle.locator.specs.Located.{Locates, locates}
+use Rattle.locator.specs.Located.{Locates, present, locates}
 use Rattle.decoder.specs.Decoder.{at, meetsAt, hits, IsAnswer, through, coefficients, decoded, four}
 use Rattle.decoder.specs.Interpolation.{Rising, On, map-on, through-on, through-length, through-below}
-use Rattle.decoder.specs.Exactly.{Accepts, is-answer, no-answer}
+use Rattle.decoder.specs.Exactly.{Accepts, sizes, is-answer, no-answer}
 use Rattle.decoder.specs.Places.{presentAt, usable, Chain, chain-take, Chosen, chain-chosen}
 use Rattle.decoder.specs.declared.Coefficients.{Coefficients}
 use Rattle.decoder.specs.declared.Decoded.the-variants.{Polynomial, Nothing}
@@ -43,14 +42,6 @@ value-four (a ∷ b ∷ c ∷ d ∷ e ∷ f) x h = absurd (omega arith)
 hits-four : (f : List ℕ) (y : ℕ → ℕ) (n : ℕ) → length f ≤ 4 → hits (four (coefficients f)) y n ≡ hits f y n
 hits-four f y n h = count-same (meetsAt (four (coefficients f)) y) (meetsAt f y) n (λ i l u. ap (λ (z : ℕ). eqb z (y i)) (value-four f i h))
 
--- a point that is not blank stands in the list
-present : (points : List ℕ) (x : ℕ) → 1 ≤ x → at points x < 257 → x ≤ length points
-present points x l h = go (decLe x (length points))
-  where
-    go : Dec (x ≤ length points) → x ≤ length points
-    go (yes k) = k
-    go (no k) = absurd (omega (arith, List·getD-eq-default points blank {n = x - 1} (omega arith)))
-
 -- c is the polynomial through the points at the first k usable places
 pub record Candidate (points es : List ℕ) (k : ℕ) (c : Coefficients) : Type 0 where
   pub xs : List ℕ
@@ -59,9 +50,6 @@ pub record Candidate (points es : List ℕ) (k : ℕ) (c : Coefficients) : Type 
   pub is : c ≡ coefficients (through (take k xs) (map (at points) (take k xs)))
 
 module _ (n : ℕ) (points : List ℕ) (a : Accepts n points) where
-  pub sizes : Sized n 1
-  sizes = sized n 1 (record { columns-low = a .low; columns-high = a .high; bytes-low = omega arith; bytes-high = omega arith })
-
   -- A POLYNOMIAL THROUGH SOME POINTS THAT MEETS ENOUGH OF THEM
 
   pub met : (es : List ℕ) (k : ℕ) (c : Coefficients) → k ≡ degree n + 1 → Candidate points es k c → n - faults n ≤ hits (four c) (at points) n
@@ -69,13 +57,13 @@ module _ (n : ℕ) (points : List ℕ) (a : Accepts n points) where
   met es k c ek p h =
       let xs : List ℕ = take k (p .xs) in
       let f : List ℕ = through xs (map (at points) xs) in
-      let s : length xs ≡ k = length-take-le k (p .xs) (omega (arith, p .size, sizes .degree-high)) in
+      let s : length xs ≡ k = length-take-le k (p .xs) (omega (arith, p .size, sizes n points a .degree-high)) in
       let l : length f ≡ length xs = through-length xs (map (at points) xs) (sym (length-map xs (at points))) in
       ap Polynomial (p .is)
       ∙ sym (is-answer n points a f (record {
         size = l ∙ s ∙ ek;
         small = through-below xs (map (at points) xs);
-        meets = omega (arith, hits-four f (at points) n (omega (arith, sizes .degree-high)), ap (λ (c : Coefficients). hits (four c) (at points) n) (p .is));
+        meets = omega (arith, hits-four f (at points) n (omega (arith, sizes n points a .degree-high)), ap (λ (c : Coefficients). hits (four c) (at points) n) (p .is));
       }))
 
   -- TOO FEW POINTS
@@ -108,7 +96,7 @@ module _ (n : ℕ) (points : List ℕ) (a : Accepts n points) where
     one-product : (x : ℕ) → value (loc .q) x ≡ value (product f (loc .e)) x
     one-product =
         same-values (n - faults n) n (loc .q) (product f (loc .e)) (omega (arith, a .high)) (loc .q-size)
-        (omega (arith, length-product f (loc .e), i .size, loc .e-size, sizes .degree-few, sizes .faults-low, sizes .faults-few))
+        (omega (arith, length-product f (loc .e), i .size, loc .e-size, sizes n points a .degree-few, sizes n points a .faults-low, sizes n points a .faults-few))
         (omega (arith, i .meets, mono (meetsAt f (at points)) (meet (loc .q) (product f (loc .e))) n where-met))
 
     zero-at : ℕ → Bool
@@ -134,7 +122,7 @@ module _ (n : ℕ) (points : List ℕ) (a : Accepts n points) where
     agrees : (x : ℕ) → 1 ≤ x → T (usable points es x) → at points x ≡ value f x
     agrees x l t =
         let h : at points x < 257 = ltb→lt (at points x) 257 (and-left (ltb (at points x) 257) (not (eqb (getD es (x - 1) 0) 0)) t) in
-        let u : x ≤ n = omega (arith, present points x l h, a .full) in
+        let u : x ≤ n = omega (arith, present points (x - 1) h, a .full) in
         let nz : value (loc .e) x ≡ 0 → ⊥ = λ z.
         T-not (eqb (getD es (x - 1) 0) 0) (and-right (ltb (at points x) 257) (not (eqb (getD es (x - 1) 0) 0)) t) (eq→eqb (getD es (x - 1) 0) 0 (locator-at x l u ∙ z)) in
         sym (mod-eq-of-lt h)
@@ -150,7 +138,7 @@ module _ (n : ℕ) (points : List ℕ) (a : Accepts n points) where
     enough-usable =
         let all : 32 - n + n ≡ 32 = omega (arith, a .high) in
         let more : count from-one n ≤ count from-one 32 = rw all at (longer from-one n (32 - n)) in
-        omega (arith, i .meets, few-zeros, more, sizes .room, cover (meetsAt f (at points)) zero-at from-one n good)
+        omega (arith, i .meets, few-zeros, more, sizes n points a .room, cover (meetsAt f (at points)) zero-at from-one n good)
       where
         good : (x : ℕ) → 1 ≤ x → x ≤ n → T (meetsAt f (at points) x) → T (not (zero-at x)) → T (from-one x)
         good x l u m z =
@@ -174,15 +162,15 @@ module _ (n : ℕ) (points : List ℕ) (a : Accepts n points) where
   none-left es k c ek loc p h =
       sym (no-answer n points a (λ f i.
       let xs : List ℕ = take k (p .xs) in
-      let s : length xs ≡ k = length-take-le k (p .xs) (omega (arith, p .size, sizes .degree-high)) in
+      let s : length xs ≡ k = length-take-le k (p .xs) (omega (arith, p .size, sizes n points a .degree-high)) in
       let same : through xs (map (at points) xs) ≡ f = only es loc f i xs (chain-take (usable points es) k 1 (p .xs) (p .chain)) (s ∙ ek) in
       omega (
         arith,
         i .meets,
-        hits-four f (at points) n (omega (arith, i .size, sizes .degree-high)),
+        hits-four f (at points) n (omega (arith, i .size, sizes n points a .degree-high)),
         ap (λ (c : Coefficients). hits (four c) (at points) n) (p .is ∙ ap (λ (g : List ℕ). coefficients g) same),
       )))
 
   -- the locator of the code
   pub code-locates : (w : ℕ) (es : List ℕ) → w ≡ n - 2 * faults n - 1 → es ≡ located w points → Locates n (faults n) points es
-  code-locates w es ew ee = rw (ee, ew) (locates n (faults n) points (omega (arith, a .high)) (omega (arith, sizes .room)) (omega (arith, a .full)))
+  code-locates w es ew ee = rw (ee, ew) (locates n (faults n) points (omega (arith, a .high)) (omega (arith, sizes n points a .room)) (omega (arith, a .full)))

@@ -12,7 +12,7 @@ use lib.ListN.{length, take}
 use Rattle.block.specs.Block.{value}
 use Rattle.block.specs.Value.{value-lt}
 use Rattle.sizes.specs.Sizes.{faults, degree, refusal}
-use Rattle.sizes.specs.Laws.{Sized, sized, accepted as sizes-accepted, columns-accepted, columns-refused}
+use Rattle.sizes.specs.Laws.{Sized, accepted as sizes-accepted, columns-sized, columns-accepted, columns-refused}
 use Rattle.decoder.specs.Decoder.{at, meetsAt, IsAnswer, found, coefficients, answerOf, decoded, refusalOf, four, polynomialOf}
 use Rattle.decoder.specs.Search.{seek-finds, seek-answers}
 use Rattle.decoder.specs.declared.Decoded.the-variants.{Polynomial, Nothing, Refused}
@@ -43,21 +43,21 @@ take-four (a ∷ b ∷ c ∷ d ∷ g ∷ f) k e h = absurd (omega arith)
 
 module _ (n : ℕ) (points : List ℕ) where
   module _ (a : Accepts n points) where
-    sizes : Sized n 1
-    sizes = sized n 1 (record { columns-low = a .low; columns-high = a .high; bytes-low = omega arith; bytes-high = omega arith })
+    pub sizes : Sized n 1
+    sizes = columns-sized n (a .low) (a .high)
 
     pub in-range : decoded n points ≡ answerOf (found n points)
     unfolding decoded
     in-range = rw (eq-eqb (refusal n 1 1) 0 (columns-accepted n (a .low) (a .high)), eq-eqb (length points) n (a .full))
 
+    answer-found : (f : List ℕ) → found n points ≡ some f → IsAnswer n points f
+    unfolding found
+    answer-found f e = seek-answers n (n - faults n) (degree n + 1) (at points) f e
+
     found-answer : (f : List ℕ) → IsAnswer n points f → found n points ≡ some f
     unfolding found
     found-answer f i =
         seek-finds n (n - faults n) (degree n + 1) (at points) (omega (arith, a .high)) (omega arith) (omega (arith, sizes .room)) f i
-
-    answer-found : (f : List ℕ) → found n points ≡ some f → IsAnswer n points f
-    unfolding found
-    answer-found f e = seek-answers n (n - faults n) (degree n + 1) (at points) f e
 
     -- the answer is the definition's
     pub is-answer : (f : List ℕ) → IsAnswer n points f → decoded n points ≡ Polynomial (coefficients f)

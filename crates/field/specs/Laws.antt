@@ -10,7 +10,7 @@ use lib.Dec.{T, eqb, ltb, eqb→eq, ltb→lt, lit<}
 use lib.ListN.{getD}
 use Rattle.lists.specs.Lists.{all}
 use Rattle.lists.specs.Entries.{all-each}
-use Rattle.lists.specs.Tests.{and-left, and-right, passes}
+use Rattle.lists.specs.Tests.{and-left, and-right, passes, either-lt}
 use Rattle.field.specs.Field.{of, add, subtract, multiply, inverse, inverseBelow, inverseEntry, inverseTable}
 use Rattle.field.specs.Congruence.{_≋_, reduce, scale, times}
 
@@ -73,18 +73,14 @@ pub inverse-of : (x : ℕ) → inverse (of x) ≡ inverse x
 unfolding inverse
 inverse-of x = below-of x 257
 
-either-le : (b : Bool) (y z n : ℕ) → y ≤ n → z ≤ n → cond b y z ≤ n
-either-le true y z n h k = h
-either-le false y z n h k = k
-
-below-le : (x n : ℕ) → inverseBelow x (suc n) ≤ n
+below-lt : (x n : ℕ) → inverseBelow x (suc n) < suc n
 unfolding inverseBelow
-below-le x zero = either-le (eqb (multiply x 0) 1) 0 0 0 (omega arith) (omega arith)
-below-le x (suc n) = either-le (eqb (multiply x (suc n)) 1) (suc n) (inverseBelow x (suc n)) (suc n) (omega arith) (omega (arith, below-le x n))
+below-lt x zero = either-lt (eqb (multiply x 0) 1) 0 0 1 (omega arith) (omega arith)
+below-lt x (suc n) = either-lt (eqb (multiply x (suc n)) 1) (suc n) (inverseBelow x (suc n)) (suc (suc n)) (omega arith) (omega (arith, below-lt x n))
 
 pub inverse-lt : (x : ℕ) → inverse x < 257
 unfolding inverse
-inverse-lt x = omega (arith, below-le x 256)
+inverse-lt x = below-lt x 256
 
 pub inverse-law : (x : ℕ) → 0 < of x → multiply x (inverse x) ≡ 1
 inverse-law x h =

@@ -1,7 +1,7 @@
 -- What a test, a Bool, says: `T b` is that it passes.
 use mathlib.Core.Path.{_≡_, refl}
-use mathlib.Core.Bool.{Bool, true, false, not, _&&_, _||_}
-use Prim.Native.Nat.{ℕ}
+use mathlib.Core.Bool.{Bool, true, false, not, _&&_, _||_, cond}
+use Prim.Native.Nat.{ℕ, _<_}
 use lib.Dec.{T, eqb, eqb-refl}
 
 abbrev pub imp : Bool → Bool → Bool
@@ -57,6 +57,11 @@ passes b e = rw e tt
 pub is-false : (b : Bool) → (T b → ⊥) → b ≡ false
 is-false true f = absurd (f tt)
 is-false false f = refl
+
+-- either of two small numbers is small
+pub either-lt : (b : Bool) (x y k : ℕ) → x < k → y < k → cond b x y < k
+either-lt true x y k h g = h
+either-lt false x y k h g = g
 
 -- two tests of which each passes with the other are one
 pub T-ext : (a b : Bool) → (T a → T b) → (T b → T a) → a ≡ b

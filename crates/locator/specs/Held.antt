@@ -10,6 +10,7 @@ use borrow.Author.Tests.{le-leb, lt-leb, eq-eqb, ne-eqb}
 use lib.Dec.{eqb, leb, ltb, lit<}
 use lib.ListN.{length, getD}
 use Rattle.lists.specs.Lists.{Below, listOf}
+use Rattle.lists.specs.Tests.{either-lt}
 use Rattle.lists.specs.Entries.{length-listOf, below-listOf}
 use Rattle.field.specs.Field.{subtract, multiply}
 use Rattle.locator.specs.declared.Weights.{Weights}
@@ -25,10 +26,6 @@ pub record Held (l : List ℕ) : Type 0 where
 
 pub held-listOf : (f : ℕ → ℕ) → ((i : ℕ) → f i < 257) → Held (listOf f 64)
 held-listOf f h = record { size = length-listOf f 64; small = below-listOf 257 f 64 (lit< tt) h }
-
-either-lt : (b : Bool) (x y k : ℕ) → x < k → y < k → cond b x y < k
-either-lt true x y k h g = h
-either-lt false x y k h g = g
 
 pub held-one : Held (listOf oneAt 64)
 unfolding oneAt

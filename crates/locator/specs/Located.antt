@@ -86,7 +86,7 @@ start-good w n points =
 -- A TURN
 
 -- a point that is not blank stands in the list
-present : (points : List ℕ) (j : ℕ) → pointAt points j < 257 → j < length points
+pub present : (points : List ℕ) (j : ℕ) → pointAt points j < 257 → j < length points
 present points j h = go (decLt j (length points))
   where
     go : Dec (j < length points) → j < length points

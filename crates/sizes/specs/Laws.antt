@@ -175,7 +175,11 @@ not-refused n m number a =
       not-outside 1 n number (a .number-low) (a .number-high),
     )
 
--- where n alone is in question: one byte and column 1 are never refused
+-- WHERE n ALONE IS IN QUESTION: one byte and column 1 are never refused
+
+pub columns-sized : (n : ℕ) → 4 ≤ n → n ≤ 31 → Sized n 1
+columns-sized n l h = sized n 1 (record { columns-low = l; columns-high = h; bytes-low = omega arith; bytes-high = omega arith })
+
 pub columns-accepted : (n : ℕ) → 4 ≤ n → n ≤ 31 → refusal n 1 1 ≡ 0
 columns-accepted n l h =
     not-refused n 1 1 (record {

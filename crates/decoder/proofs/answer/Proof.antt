@@ -3,7 +3,8 @@ use mathlib.Core.Path.{ap}
 use Prim.Native.Nat.{ℕ, _+_, _-_, _*_}
 use native.Mathlib.Omega.{arith}
 use Rattle.sizes.specs.Sizes.{faults, degree}
-use Rattle.decoder.specs.Answers.{sizes, met, too-few, none-left, code-locates}
+use Rattle.decoder.specs.Exactly.{sizes}
+use Rattle.decoder.specs.Answers.{met, too-few, none-left, code-locates}
 use borrow.Author.Needs.{needs}
 use Rattle.decoder.proofs.answer.Statement.{statement}
 use Rattle.decoder.proofs.answer.Tie as tie

@@ -14,7 +14,7 @@ use Rattle.lists.specs.Tests.{either-lt}
 use Rattle.lists.specs.Entries.{length-listOf, below-listOf}
 use Rattle.field.specs.Field.{subtract, multiply}
 use Rattle.locator.specs.declared.Weights.{Weights}
-use Rattle.locator.specs.Locator.{pointAt, discrepancy, Run, oneAt, pointsAt, start, mixedAt, cleared, raisedAt, raised, leads, firstLeads, secondLeads, turn, run, lighter, located}
+use Rattle.locator.specs.Locator.{pointAt, discrepancy, Run, firstAt, secondAt, start, mixedAt, cleared, raisedAt, raised, leads, firstLeads, secondLeads, turn, run, lighter, located}
 
 -- a run as the code holds it
 abbrev pub runOf : List ℕ → List ℕ → Weights → Run
@@ -27,14 +27,14 @@ pub record Held (l : List ℕ) : Type 0 where
 pub held-listOf : (f : ℕ → ℕ) → ((i : ℕ) → f i < 257) → Held (listOf f 64)
 held-listOf f h = record { size = length-listOf f 64; small = below-listOf 257 f 64 (lit< tt) h }
 
-pub held-one : Held (listOf oneAt 64)
-unfolding oneAt
-held-one = held-listOf oneAt (λ i. either-lt (ltb i 32) 0 1 257 (lit< tt) (lit< tt))
+pub held-first : Held (listOf firstAt 64)
+unfolding firstAt
+held-first = held-listOf firstAt (λ i. either-lt (ltb i 32) 0 1 257 (lit< tt) (lit< tt))
 
-pub held-points : (points : List ℕ) → Held (listOf (pointsAt points) 64)
-unfolding pointsAt
-held-points points =
-    held-listOf (pointsAt points) (λ i.
+pub held-second : (points : List ℕ) → Held (listOf (secondAt points) 64)
+unfolding secondAt
+held-second points =
+    held-listOf (secondAt points) (λ i.
     either-lt (ltb i 32) 1 (subtract 0 (pointAt points (i - 32))) 257 (lit< tt) (mod-lt (0 + (257 - pointAt points (i - 32) % 257)) (lit< tt)))
 
 pub held-cleared : (j : ℕ) (other lead : List ℕ) → Held (cleared j other lead)
@@ -83,7 +83,7 @@ held-turn s y j most h = go (leb 257 y) (leads (discrepancy (s .first) j) (discr
 pub held-run : (weight : ℕ) (points : List ℕ) (j : ℕ) → HeldRun (run weight points j) (weight + j)
 unfolding run start
 held-run weight points zero =
-    record { first-held = held-one; second-held = held-points points; first-light = omega arith; second-light = omega arith }
+    record { first-held = held-first; second-held = held-second points; first-light = omega arith; second-light = omega arith }
 held-run weight points (suc j) =
     let e : weight + suc j ≡ suc (weight + j) = omega arith in
     rw e (held-turn (run weight points j) (pointAt points j) j (weight + j) (held-run weight points j))
@@ -119,7 +119,7 @@ pub record Running (weight : ℕ) (points a b : List ℕ) (w : Weights) (j : ℕ
   pub within : j ≤ 32
   pub holds : runOf a b w ≡ run weight points j
 
-pub running-none : (weight : ℕ) (points a b : List ℕ) → a ≡ listOf oneAt 64 → b ≡ listOf (pointsAt points) 64
+pub running-none : (weight : ℕ) (points a b : List ℕ) → a ≡ listOf firstAt 64 → b ≡ listOf (secondAt points) 64
     → Running weight points a b (record { first = 0; second = weight }) 0
 unfolding run start
 running-none weight points a b ea eb = record { within = omega arith; holds = rw (ea, eb) }

@@ -17,15 +17,15 @@ use Rattle.lists.specs.Entries.{getD-listOf}
 use Rattle.field.specs.Field.{of, subtract, blank}
 use Rattle.field.specs.Congruence.{_≋_}
 use Rattle.block.specs.Block.{value}
-use Rattle.locator.specs.Locator.{pointAt, discrepancy, Run, oneAt, pointsAt, start, firstLeads, secondLeads, turn, run, located}
-use Rattle.locator.specs.Held.{held-one, held-points}
+use Rattle.locator.specs.Locator.{pointAt, discrepancy, Run, firstAt, secondAt, start, firstLeads, secondLeads, turn, run, located}
+use Rattle.locator.specs.Held.{held-first, held-second}
 use Rattle.locator.specs.Steps.{Pair, Apart, Free, raised-pair, cleared-pair, turned-apart}
 
 -- both pairs after the first j places
 pub record Good (w n : ℕ) (points : List ℕ) (s : Run) (j : ℕ) : Type 0 where
-  pub one : Pair w points (s .first) (s .first-weight) j
-  pub two : Pair w points (s .second) (s .second-weight) j
-  pub independent : Apart one two
+  pub first-pair : Pair w points (s .first) (s .first-weight) j
+  pub second-pair : Pair w points (s .second) (s .second-weight) j
+  pub independent : Apart first-pair second-pair
   pub weights : s .first-weight + s .second-weight ≤ w + j
   pub all-weights : s .first-weight + s .second-weight ≤ w + n
 
@@ -36,44 +36,44 @@ unfolding value
 constant x = omega arith
 
 module _ (i : ℕ) (h : i < 32) where
-  one-e : getD (listOf oneAt 64) i 0 ≡ 0
-  unfolding oneAt
-  one-e = getD-listOf oneAt 64 i 0 (omega arith) ∙ simp (lt-ltb i 32 h)
+  first-e : getD (listOf firstAt 64) i 0 ≡ 0
+  unfolding firstAt
+  first-e = getD-listOf firstAt 64 i 0 (omega arith) ∙ simp (lt-ltb i 32 h)
 
-  one-d : discrepancy (listOf oneAt 64) i ≡ 1
-  unfolding oneAt
-  one-d = getD-listOf oneAt 64 (32 + i) 0 (omega arith) ∙ simp (le-ltb (32 + i) 32 (omega arith))
+  first-d : discrepancy (listOf firstAt 64) i ≡ 1
+  unfolding firstAt
+  first-d = getD-listOf firstAt 64 (32 + i) 0 (omega arith) ∙ simp (le-ltb (32 + i) 32 (omega arith))
 
-  two-e : (points : List ℕ) → getD (listOf (pointsAt points) 64) i 0 ≡ 1
-  unfolding pointsAt
-  two-e points = getD-listOf (pointsAt points) 64 i 0 (omega arith) ∙ simp (lt-ltb i 32 h)
+  second-e : (points : List ℕ) → getD (listOf (secondAt points) 64) i 0 ≡ 1
+  unfolding secondAt
+  second-e points = getD-listOf (secondAt points) 64 i 0 (omega arith) ∙ simp (lt-ltb i 32 h)
 
-  two-d : (points : List ℕ) → discrepancy (listOf (pointsAt points) 64) i ≡ subtract 0 (pointAt points i)
-  unfolding pointsAt
-  two-d points =
+  second-d : (points : List ℕ) → discrepancy (listOf (secondAt points) 64) i ≡ subtract 0 (pointAt points i)
+  unfolding secondAt
+  second-d points =
       let e : 32 + i - 32 ≡ i = omega arith in
-      getD-listOf (pointsAt points) 64 (32 + i) 0 (omega arith) ∙ simp (le-ltb (32 + i) 32 (omega arith), e)
+      getD-listOf (secondAt points) 64 (32 + i) 0 (omega arith) ∙ simp (le-ltb (32 + i) 32 (omega arith), e)
 
 start-good : (w n : ℕ) (points : List ℕ) → Good w n points (start w points) 0
 unfolding start Apart value
 start-good w n points =
     record {
-      one = record {
+      first-pair = record {
         e = [];
         q = 1 ∷ [];
-        small = held-one .small;
-        e-values = one-e;
-        d-values = λ i h. rw (one-d i h) (omega arith);
+        small = held-first .small;
+        e-values = first-e;
+        d-values = λ i h. rw (first-d i h) (omega arith);
         fitted = λ i h. absurd (omega arith);
         e-size = omega arith;
         q-size = omega arith;
       };
-      two = record {
+      second-pair = record {
         e = 1 ∷ [];
         q = [];
-        small = held-points points .small;
-        e-values = λ i h. two-e i h points ∙ sym (constant (i + 1));
-        d-values = λ i h. rw (two-d i h points, constant (i + 1)) (omega arith);
+        small = held-second points .small;
+        e-values = λ i h. second-e i h points ∙ sym (constant (i + 1));
+        d-values = λ i h. rw (second-d i h points, constant (i + 1)) (omega arith);
         fitted = λ i h. absurd (omega arith);
         e-size = omega arith;
         q-size = omega arith;
@@ -116,36 +116,36 @@ module _ (w n : ℕ) (points : List ℕ) (size : length points ≤ n) (s : Run) 
   unfolding Apart keep
   stays x y =
       record {
-        one = keep (g .one) x;
-        two = keep (g .two) y;
+        first-pair = keep (g .first-pair) x;
+        second-pair = keep (g .second-pair) y;
         independent = g .independent;
         weights = omega (arith, g .weights);
         all-weights = g .all-weights;
       }
 
-  one-leads : pointAt points j < 257 → 0 < discrepancy (s .first) j → Free j (s .second) (s .second-weight) (s .first-weight)
+  first-leads : pointAt points j < 257 → 0 < discrepancy (s .first) j → Free j (s .second) (s .second-weight) (s .first-weight)
       → Good w n points (firstLeads s j) (suc j)
   unfolding firstLeads
-  one-leads y p free =
+  first-leads y p free =
       record {
-        one = raised-pair w points (s .first) (s .first-weight) j h (g .one);
-        two = cleared-pair w points (s .second) (s .first) (s .second-weight) (s .first-weight) j h (g .two) (g .one) free .pair;
-        independent = turned-apart w points (s .second) (s .first) (s .second-weight) (s .first-weight) j h (g .two) (g .one) free p (g .independent);
+        first-pair = raised-pair w points (s .first) (s .first-weight) j h (g .first-pair);
+        second-pair = cleared-pair w points (s .second) (s .first) (s .second-weight) (s .first-weight) j h (g .second-pair) (g .first-pair) free .pair;
+        independent = turned-apart w points (s .second) (s .first) (s .second-weight) (s .first-weight) j h (g .second-pair) (g .first-pair) free p (g .independent);
         weights = omega (arith, g .weights);
         all-weights = omega (arith, g .weights, present points j y);
       }
 
-  two-leads : pointAt points j < 257 → 0 < discrepancy (s .second) j → Free j (s .first) (s .first-weight) (s .second-weight)
+  second-leads : pointAt points j < 257 → 0 < discrepancy (s .second) j → Free j (s .first) (s .first-weight) (s .second-weight)
       → Good w n points (secondLeads s j) (suc j)
   unfolding secondLeads
-  two-leads y p free =
-      let lead = raised-pair w points (s .second) (s .second-weight) j h (g .two) in
-      let other = cleared-pair w points (s .first) (s .second) (s .first-weight) (s .second-weight) j h (g .one) (g .two) free .pair in
+  second-leads y p free =
+      let lead = raised-pair w points (s .second) (s .second-weight) j h (g .second-pair) in
+      let other = cleared-pair w points (s .first) (s .second) (s .first-weight) (s .second-weight) j h (g .first-pair) (g .second-pair) free .pair in
       record {
-        one = other;
-        two = lead;
+        first-pair = other;
+        second-pair = lead;
         independent = flip lead other
-            (turned-apart w points (s .first) (s .second) (s .first-weight) (s .second-weight) j h (g .one) (g .two) free p (flip (g .one) (g .two) (g .independent)));
+            (turned-apart w points (s .first) (s .second) (s .first-weight) (s .second-weight) j h (g .first-pair) (g .second-pair) free p (flip (g .first-pair) (g .second-pair) (g .independent)));
         weights = omega (arith, g .weights);
         all-weights = omega (arith, g .weights, present points j y);
       }
@@ -168,13 +168,13 @@ module _ (w n : ℕ) (points : List ℕ) (size : length points ≤ n) (s : Run) 
       go true ea b eb c ec d ed = stays (λ l. absurd (omega (arith, leb-true 257 y ea))) (λ l. absurd (omega (arith, leb-true 257 y ea)))
       go false ea true eb true ec d ed = stays (λ l. eqb-true x 0 eb) (λ l. eqb-true z 0 ec)
       go false ea true eb false ec d ed =
-          two-leads (leb-false 257 y ea) (omega (arith, eqb-false z 0 ec)) (inr (eqb-true x 0 eb))
+          second-leads (leb-false 257 y ea) (omega (arith, eqb-false z 0 ec)) (inr (eqb-true x 0 eb))
       go false ea false eb true ec d ed =
-          one-leads (leb-false 257 y ea) (omega (arith, eqb-false x 0 eb)) (inr (eqb-true z 0 ec))
+          first-leads (leb-false 257 y ea) (omega (arith, eqb-false x 0 eb)) (inr (eqb-true z 0 ec))
       go false ea false eb false ec true ed =
-          one-leads (leb-false 257 y ea) (omega (arith, eqb-false x 0 eb)) (inl (leb-true (s .first-weight) (s .second-weight) ed))
+          first-leads (leb-false 257 y ea) (omega (arith, eqb-false x 0 eb)) (inl (leb-true (s .first-weight) (s .second-weight) ed))
       go false ea false eb false ec false ed =
-          two-leads (leb-false 257 y ea) (omega (arith, eqb-false z 0 ec)) (inl (omega (arith, leb-false (s .first-weight) (s .second-weight) ed)))
+          second-leads (leb-false 257 y ea) (omega (arith, eqb-false z 0 ec)) (inl (omega (arith, leb-false (s .first-weight) (s .second-weight) ed)))
 
 run-good : (w n : ℕ) (points : List ℕ) → length points ≤ n → (j : ℕ) → j ≤ 32 → Good w n points (run w points j) j
 unfolding run
@@ -220,8 +220,8 @@ module _ (n t : ℕ) (points : List ℕ) (high : n ≤ 32) (room : 2 * t < n) (s
 
       go : (b : Bool) → leb (s .first-weight) (s .second-weight) ≡ b → Locates n t points (cond b (s .first) (s .second))
       go true e =
-          light (s .first) (s .first-weight) (g .one) (omega (arith, leb-true (s .first-weight) (s .second-weight) e, g .all-weights))
+          light (s .first) (s .first-weight) (g .first-pair) (omega (arith, leb-true (s .first-weight) (s .second-weight) e, g .all-weights))
           (λ x y. g .independent (rw (x, y) (omega arith)))
       go false e =
-          light (s .second) (s .second-weight) (g .two) (omega (arith, leb-false (s .first-weight) (s .second-weight) e, g .all-weights))
+          light (s .second) (s .second-weight) (g .second-pair) (omega (arith, leb-false (s .first-weight) (s .second-weight) e, g .all-weights))
           (λ x y. g .independent (rw (x, y) (omega arith)))

@@ -24,16 +24,16 @@ pub record Run : Type 0 where
   pub first-weight : ℕ
   pub second-weight : ℕ
 
--- e = 0, q = 1
-unfoldable pub oneAt : ℕ → ℕ
-oneAt i = cond (ltb i 32) 0 1
+-- the first pair at the start: e = 0, q = 1
+unfoldable pub firstAt : ℕ → ℕ
+firstAt i = cond (ltb i 32) 0 1
 
--- e = 1, q = 0
-unfoldable pub pointsAt : List ℕ → ℕ → ℕ
-pointsAt points i = cond (ltb i 32) 1 (subtract 0 (pointAt points (i - 32)))
+-- the second: e = 1, q = 0. (What a blank leaves here is never read)
+unfoldable pub secondAt : List ℕ → ℕ → ℕ
+secondAt points i = cond (ltb i 32) 1 (subtract 0 (pointAt points (i - 32)))
 
 unfoldable pub start : ℕ → List ℕ → Run
-start weight points = record { first = listOf oneAt 64; second = listOf (pointsAt points) 64; first-weight = 0; second-weight = weight }
+start weight points = record { first = listOf firstAt 64; second = listOf (secondAt points) 64; first-weight = 0; second-weight = weight }
 
 -- a times the other pair plus b times the leading one
 unfoldable pub mixedAt : ℕ → ℕ → List ℕ → List ℕ → ℕ → ℕ

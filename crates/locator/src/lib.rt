@@ -8,7 +8,7 @@ ghost use Rattle.lists.specs.Lists.{listOf};
 ghost use Rattle.locator.specs.Held.{Held, runOf};
 ghost use Rattle.field.specs.Field.{add, subtract, multiply};
 ghost use Rattle.field.specs.Congruence.{_≋_};
-ghost use Rattle.locator.specs.Locator.{pointAt, oneAt, pointsAt, mixedAt, cleared, raised, leads as leadsOf, turn as turnOf, located};
+ghost use Rattle.locator.specs.Locator.{pointAt, firstAt, secondAt, mixedAt, cleared, raised, leads as leadsOf, turn as turnOf, located};
 
 // How heavy the two pairs are.
 struct Weights {
@@ -58,9 +58,9 @@ pub fn point_at(points: &[u16], i: usize) -> u16
     Field::BLANK
 }
 
-// A number of the pair e = 0, q = 1.
-fn one_at(i: usize) -> u16
-    ensures { λ r. ⌜ r ≡ oneAt i ⌝ }
+// A number of the first pair at the start, e = 0 and q = 1.
+fn first_at(i: usize) -> u16
+    ensures { λ r. ⌜ r ≡ firstAt i ⌝ }
 {
     if i < 32 {
         return 0;
@@ -68,19 +68,19 @@ fn one_at(i: usize) -> u16
     1
 }
 
-fn one() -> [u16; 64]
-    ensures { λ r. ⌜ r ≡ listOf oneAt 64 ⌝ }
+fn start_first() -> [u16; 64]
+    ensures { λ r. ⌜ r ≡ listOf firstAt 64 ⌝ }
 {
     let mut pair = [0u16; 64];
     for i in 0..64 {
-        pair[i] = one_at(i);
+        pair[i] = first_at(i);
     }
     pair
 }
 
-// A number of the pair e = 1, q = 0.
-fn points_at(points: &[u16], i: usize) -> u16
-    ensures { λ r. ⌜ r ≡ pointsAt (now (points .entry)) i ⌝ }
+// A number of the second pair at the start, e = 1 and q = 0.
+fn second_at(points: &[u16], i: usize) -> u16
+    ensures { λ r. ⌜ r ≡ secondAt (now (points .entry)) i ⌝ }
 {
     if i < 32 {
         return 1;
@@ -89,12 +89,12 @@ fn points_at(points: &[u16], i: usize) -> u16
     negated.0
 }
 
-fn zero(points: &[u16]) -> [u16; 64]
-    ensures { λ r. ⌜ r ≡ listOf (pointsAt (now (points .entry))) 64 ⌝ }
+fn start_second(points: &[u16]) -> [u16; 64]
+    ensures { λ r. ⌜ r ≡ listOf (secondAt (now (points .entry))) 64 ⌝ }
 {
     let mut pair = [0u16; 64];
     for i in 0..64 {
-        pair[i] = points_at(points, i);
+        pair[i] = second_at(points, i);
     }
     pair
 }
@@ -184,8 +184,8 @@ fn turn(first: &mut [u16; 64], second: &mut [u16; 64], w: Weights, y: u16, j: us
 pub fn locate(weight: u8, points: &[u16]) -> [u16; 64]
     ensures { λ r. ⌜ r ≡ located weight (now (points .entry)) ⌝ }
 {
-    let mut first = one();
-    let mut second = zero(points);
+    let mut first = start_first();
+    let mut second = start_second(points);
     let mut weights = Weights {
         first: 0,
         second: weight as u16,

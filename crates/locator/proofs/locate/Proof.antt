@@ -13,14 +13,14 @@ Inv-loop weight points first₀ second₀ weights₀ j₀ first second weights j
 abbrev μ-loop : tie.MeasureT-loop
 μ-loop weight points first₀ second₀ weights₀ j₀ first second weights j = 32 - j
 
-one-requires : tie.Need-one-requires Inv-loop μ-loop
-one-requires c κs = tt
+start-first-requires : tie.Need-start-first-requires Inv-loop μ-loop
+start-first-requires c κs = tt
 
-zero-requires : tie.Need-zero-requires Inv-loop μ-loop
-zero-requires c κs = tt
+start-second-requires : tie.Need-start-second-requires Inv-loop μ-loop
+start-second-requires c κs = tt
 
 loop-holds : tie.Need-loop-holds Inv-loop μ-loop
-loop-holds c = running-none _ _ _ _ (c .before .one .ensures) (c .zero .ensures)
+loop-holds c = running-none _ _ _ _ (c .before .start-first .ensures) (c .start-second .ensures)
 
 point-at-requires : tie.Need-point-at-requires Inv-loop μ-loop
 point-at-requires c κs = tt
@@ -52,8 +52,8 @@ locate-spec =
     (tie.spec
     Inv-loop
     μ-loop
-    one-requires
-    zero-requires
+    start-first-requires
+    start-second-requires
     loop-holds
     point-at-requires
     turn-requires

@@ -1,13 +1,13 @@
--- `one` meets its contract.
+-- `start_first` meets its contract.
 use Prim.Native.Nat.{_-_}
 use native.Mathlib.Omega.{arith}
 use Rattle.lists.specs.Loops.{Filled, filled-none, filled-more, filled-done}
-use Rattle.locator.specs.Locator.{oneAt}
-use Rattle.locator.proofs.one.Statement.{statement}
-use Rattle.locator.proofs.one.Tie as tie
+use Rattle.locator.specs.Locator.{firstAt}
+use Rattle.locator.proofs.start_first.Statement.{statement}
+use Rattle.locator.proofs.start_first.Tie as tie
 
 abbrev Inv-loop : tie.InvT-loop
-Inv-loop pair₀ i₀ pair i = Filled oneAt 64 pair₀ pair i
+Inv-loop pair₀ i₀ pair i = Filled firstAt 64 pair₀ pair i
 
 abbrev μ-loop : tie.MeasureT-loop
 μ-loop pair₀ i₀ pair i = 64 - i
@@ -15,8 +15,8 @@ abbrev μ-loop : tie.MeasureT-loop
 loop-holds : tie.Need-loop-holds Inv-loop μ-loop
 loop-holds c = filled-none _ _ _ (omega arith)
 
-one-at-requires : tie.Need-one-at-requires Inv-loop μ-loop
-one-at-requires c κs = tt
+first-at-requires : tie.Need-first-at-requires Inv-loop μ-loop
+first-at-requires c κs = tt
 
 mul-pair : tie.Need-mul-pair Inv-loop μ-loop
 mul-pair c = omega arith
@@ -31,19 +31,19 @@ loop-less : tie.Need-loop-less Inv-loop μ-loop
 loop-less c = omega arith
 
 loop-again : tie.Need-loop-again Inv-loop μ-loop
-loop-again c = filled-more _ _ _ _ _ _ (c .before .before .loop .inv) (omega arith) (c .one-at .ensures)
+loop-again c = filled-more _ _ _ _ _ _ (c .before .before .loop .inv) (omega arith) (c .first-at .ensures)
 
 returns : tie.Need-returns Inv-loop μ-loop
 returns c = filled-done _ _ _ _ _ (c .before .loop .inv) (omega arith) (omega arith)
 
-pub one-spec : {M : Type 1} → statement M
-one-spec =
+pub start-first-spec : {M : Type 1} → statement M
+start-first-spec =
     tie.close
     (tie.spec
     Inv-loop
     μ-loop
     loop-holds
-    one-at-requires
+    first-at-requires
     mul-pair
     array-write-pair
     add-i

@@ -1,16 +1,16 @@
--- `points_at` meets its contract.
+-- `second_at` meets its contract.
 use mathlib.Core.Path.{ap, _∙_}
 use Prim.Native.Nat.{ℕ}
 use Rattle.field.specs.Field.{subtract}
 use Rattle.field.specs.declared.Field.{Field}
 use borrow.Author.Tests.{lt-ltb, le-ltb}
-use Rattle.locator.specs.Locator.{pointsAt}
+use Rattle.locator.specs.Locator.{secondAt}
 use borrow.Author.Needs.{needs}
-use Rattle.locator.proofs.points_at.Statement.{statement}
-use Rattle.locator.proofs.points_at.Tie as tie
+use Rattle.locator.proofs.second_at.Statement.{statement}
+use Rattle.locator.proofs.second_at.Tie as tie
 
 returns : tie.Need-returns
-unfolding pointsAt
+unfolding secondAt
 returns c = simp (lt-ltb _ _ (c .if1 .taken))
 
 point-at-requires : tie.Need-point-at-requires
@@ -20,10 +20,10 @@ subtract-requires : tie.Need-subtract-requires
 subtract-requires c κs = search needs
 
 returns-2 : tie.Need-returns-2
-unfolding pointsAt
+unfolding secondAt
 returns-2 c =
     simp (le-ltb _ _ (c .before .before .if1 .left))
     (ap (λ (f : Field). f .0) (c .subtract .ensures) ∙ ap (λ (z : ℕ). subtract 0 z) (c .before .point-at .ensures))
 
-pub points-at-spec : {M : Type 1} → statement M
-points-at-spec = tie.close (tie.spec returns point-at-requires subtract-requires returns-2)
+pub second-at-spec : {M : Type 1} → statement M
+second-at-spec = tie.close (tie.spec returns point-at-requires subtract-requires returns-2)

@@ -100,15 +100,7 @@ module _ (n : ℕ) (points : List ℕ) where
         go h none e = e
         go h (some f) e = absurd (h f (answer-found f e))
 
-  pub refused-1 : (n < 4) ⊎ (31 < n) → decoded n points ≡ Refused 1
-  unfolding decoded
-  refused-1 h = rw (columns-refused n h)
-
-  pub refused-4 : 4 ≤ n → n ≤ 31 → (length points ≡ n → ⊥) → decoded n points ≡ Refused 4
-  unfolding decoded
-  refused-4 l u h = rw (eq-eqb (refusal n 1 1) 0 (columns-accepted n l u), ne-eqb (length points) n h)
-
-  -- the same by the refusal of the sizes
+  -- by the refusal of the sizes, as the code asks it
   pub refused-columns : (refusal n 1 1 ≡ 0 → ⊥) → decoded n points ≡ Refused (refusal n 1 1)
   unfolding decoded
   refused-columns h = rw (ne-eqb (refusal n 1 1) 0 h)
@@ -116,6 +108,14 @@ module _ (n : ℕ) (points : List ℕ) where
   pub refused-points : refusal n 1 1 ≡ 0 → (length points ≡ n → ⊥) → decoded n points ≡ Refused 4
   unfolding decoded
   refused-points e h = rw (eq-eqb (refusal n 1 1) 0 e, ne-eqb (length points) n h)
+
+  -- and by what document 01 says of it
+  pub refused-1 : (n < 4) ⊎ (31 < n) → decoded n points ≡ Refused 1
+  unfolding decoded
+  refused-1 h = rw (columns-refused n h)
+
+  pub refused-4 : 4 ≤ n → n ≤ 31 → (length points ≡ n → ⊥) → decoded n points ≡ Refused 4
+  refused-4 l u h = refused-points (columns-accepted n l u) h
 
   pub accepts-of : refusal n 1 1 ≡ 0 → length points ≡ n → Accepts n points
   accepts-of e f =

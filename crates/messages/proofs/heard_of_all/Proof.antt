@@ -1,0 +1,57 @@
+-- `heard_of_all` meets its contract.
+use native.Mathlib.Omega.{arith}
+use Prim.Native.Nat.{_-_}
+use Rattle.lists.specs.Loops.{Filled, filled-none, filled-more, filled-done}
+use Rattle.messages.specs.Messages.{heardFrom, heardOfAll}
+use Rattle.messages.proofs.heard_of_all.Statement.{statement}
+use Rattle.messages.proofs.heard_of_all.Tie as tie
+
+abbrev Inv-loop : tie.InvT-loop
+Inv-loop n own mine w inbox k values₀ i₀ values i = Filled (heardFrom n own mine w inbox k) 31 values₀ values i
+
+abbrev μ-loop : tie.MeasureT-loop
+μ-loop n own mine w inbox k values₀ i₀ values i = 31 - i
+
+loop-holds : tie.Need-loop-holds Inv-loop μ-loop
+loop-holds c = filled-none _ _ _ (omega arith)
+
+cast-at : tie.Need-cast-at Inv-loop μ-loop
+cast-at c = omega arith
+
+heard-from-requires : tie.Need-heard-from-requires Inv-loop μ-loop
+heard-from-requires c κs = omega arith
+
+mul-values : tie.Need-mul-values Inv-loop μ-loop
+mul-values c = omega arith
+
+array-write-values : tie.Need-array-write-values Inv-loop μ-loop
+array-write-values c = omega arith
+
+add-i : tie.Need-add-i Inv-loop μ-loop
+add-i c = omega arith
+
+loop-less : tie.Need-loop-less Inv-loop μ-loop
+loop-less c = omega arith
+
+loop-again : tie.Need-loop-again Inv-loop μ-loop
+loop-again c = filled-more _ _ _ _ _ _ (c .before .before .loop .inv) (omega arith) (c .heard-from .ensures)
+
+returns : tie.Need-returns Inv-loop μ-loop
+unfolding heardOfAll
+returns c = filled-done _ _ _ _ _ (c .before .loop .inv) (omega arith) (omega arith)
+
+pub heard-of-all-spec : {M : Type 1} → statement M
+heard-of-all-spec =
+    tie.close
+    (tie.spec
+    Inv-loop
+    μ-loop
+    loop-holds
+    cast-at
+    heard-from-requires
+    mul-values
+    array-write-values
+    add-i
+    loop-less
+    loop-again
+    returns)

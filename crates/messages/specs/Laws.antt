@@ -1,0 +1,116 @@
+-- The laws of messages.
+use mathlib.Core.Path.{_≡_, refl, ap, _∙_}
+use mathlib.Core.Bool.{Bool, true, false, cond}
+use mathlib.Core.List.{List, _++_}
+use Prim.Native.Nat.{ℕ, zero, _+_, _-_, _*_, _≤_, _<_}
+use native.Mathlib.Omega.{arith}
+use native.Mathlib.Decide.{decLt}
+use borrow.Author.Tests.{lt-ltb, le-ltb, le-leb, lt-leb, eq-eqb, ne-eqb}
+use lib.Dec.{T, eqb, ltb, eqb→eq}
+use lib.ListN.{length, drop, getD}
+use Rattle.lists.specs.Lists.{listOf, inRow}
+use Rattle.lists.specs.Entries.{getD-listOf}
+use Rattle.lists.specs.Tests.{passes}
+use Rattle.field.specs.Field.{blank}
+use Rattle.messages.specs.Messages.{readPoint, readReport, readBit, said, from, written, refusal, unlessRefused, heard, heardFrom, heardOfAll}
+
+-- WHAT A VALUE SAYS: a legal value is itself
+
+pub point-is : (v : ℕ) → v < 257 → readPoint v ≡ v
+unfolding readPoint
+point-is v h = simp (lt-ltb v 257 h)
+
+pub bit-is : (v : ℕ) → v < 2 → readBit v ≡ v
+unfolding readBit
+bit-is v h = simp (lt-ltb v 2 h)
+
+-- whether a legal value was received can be asked of the value as it came
+pub same-point : (v x : ℕ) → x < 257 → eqb (readPoint v) x ≡ eqb v x
+unfolding readPoint
+same-point v x h = go (decLt v 257)
+  where
+    go : Dec (v < 257) → eqb (cond (ltb v 257) v blank) x ≡ eqb v x
+    go (yes l) = simp (lt-ltb v 257 l)
+    go (no l) = simp (le-ltb v 257 (omega arith), ne-eqb v x (omega arith), ne-eqb blank x (omega arith))
+
+pub same-report : (v : ℕ) → eqb (readReport v) 1 ≡ eqb v 1
+unfolding readReport
+same-report v = go (eqb v 1) refl
+  where
+    go : (b : Bool) → eqb v 1 ≡ b → eqb (cond b v blank) 1 ≡ b
+    go true e = e
+    go false e = ne-eqb blank 1 (omega arith)
+
+pub same-bit : (v b : ℕ) → b < 2 → eqb (readBit v) b ≡ eqb v b
+unfolding readBit
+same-bit v b h = go (decLt v 2)
+  where
+    go : Dec (v < 2) → eqb (cond (ltb v 2) v blank) b ≡ eqb v b
+    go (yes l) = simp (lt-ltb v 2 l)
+    go (no l) = simp (le-ltb v 2 (omega arith), ne-eqb v b (omega arith), ne-eqb blank b (omega arith))
+
+-- HOW MESSAGES LIE
+
+-- column i + 1's value lies at place i
+pub from-place : (values : List ℕ) (i : ℕ) → from values (i + 1) ≡ said values i
+unfolding from said
+from-place values i = ap (λ (q : ℕ). getD values q blank) (omega arith)
+
+pub written-fits : (w : ℕ) (message part : List ℕ) → w ≤ length part → written w message part ≡ listOf (said message) w ++ drop w part
+unfolding written
+written-fits w message part h = simp (le-leb w (length part) h)
+
+pub not-written : (w : ℕ) (message part : List ℕ) → length part < w → written w message part ≡ part
+unfolding written
+not-written w message part h = simp (lt-leb w (length part) h)
+
+-- REFUSALS
+
+module _ (why n w len : ℕ) where
+  pub refused-before : (why ≡ 0 → ⊥) → refusal why n w len ≡ why
+  unfolding refusal
+  refused-before h = simp (ne-eqb why 0 h)
+
+  pub refused-length : why ≡ 0 → (len ≡ n * w → ⊥) → refusal why n w len ≡ 4
+  unfolding refusal
+  refused-length e h = simp (eq-eqb why 0 e, ne-eqb len (n * w) h)
+
+  pub not-refused : why ≡ 0 → len ≡ n * w → refusal why n w len ≡ 0
+  unfolding refusal
+  not-refused e h = simp (eq-eqb why 0 e, eq-eqb len (n * w) h)
+
+-- a call that is not refused: the slice is as long as it has to be
+pub accepted : (why n w len : ℕ) → refusal why n w len ≡ 0 → (why ≡ 0) × (len ≡ n * w)
+unfolding refusal
+accepted why n w len = go (eqb why 0) (eqb len (n * w)) refl refl
+  where
+    go : (a b : Bool) → eqb why 0 ≡ a → eqb len (n * w) ≡ b → _≡_ {A = ℕ} (cond a (cond b 0 4) why) 0 → (why ≡ 0) × (len ≡ n * w)
+    go true true ea eb h = (eqb→eq why 0 (passes _ ea), eqb→eq len (n * w) (passes _ eb))
+    go true false ea eb h = absurd (omega arith)
+    go false b ea eb h = let q : T (eqb why 0) = rw h tt in absurd (rw ea at q)
+
+pub if-refused : (why : ℕ) (done before : List ℕ) → (why ≡ 0 → ⊥) → unlessRefused why done before ≡ before
+unfolding unlessRefused
+if-refused why done before h = simp (ne-eqb why 0 h)
+
+pub if-done : (why : ℕ) (done before : List ℕ) → why ≡ 0 → unlessRefused why done before ≡ done
+unfolding unlessRefused
+if-done why done before h = simp (eq-eqb why 0 h)
+
+-- WHAT A COLUMN HEARS
+
+module _ (own : ℕ) (mine : List ℕ) (w : ℕ) (inbox : List ℕ) where
+  pub heard-own : (j k : ℕ) → j ≡ own → heard own mine w inbox j k ≡ said mine k
+  unfolding heard
+  heard-own j k e = simp (eq-eqb j own e)
+
+  pub heard-other : (j k : ℕ) → (j ≡ own → ⊥) → heard own mine w inbox j k ≡ inRow w inbox j k blank
+  unfolding heard
+  heard-other j k h = simp (ne-eqb j own h)
+
+  -- column j's of the values from all columns
+  pub from-heard : (n k j : ℕ) → 1 ≤ j → j ≤ n → n ≤ 31 → from (heardOfAll n own mine w inbox k) j ≡ heard own mine w inbox j k
+  unfolding from heardOfAll heardFrom
+  from-heard n k j l u h =
+      let e : j - 1 + 1 ≡ j = omega arith in
+      getD-listOf (heardFrom n own mine w inbox k) 31 (j - 1) blank (omega arith) ∙ simp (lt-ltb (j - 1) n (omega arith), e)

@@ -1,0 +1,158 @@
+// Messages of one round: what a value says, how messages lie in a slice by column number, and what a column hears, its own place
+// being what it would send itself. What is not there is blank.
+use field::Field;
+ghost use mathlib.Core.Path.{_≡_};
+ghost use mathlib.Core.Bool.{cond};
+ghost use Prim.Native.Nat.{_+_, _*_, _≤_};
+ghost use lib.Dec.{eqb, leb};
+ghost use lib.ListN.{length};
+ghost use Rattle.lists.specs.Lists.{bit};
+ghost use Rattle.messages.specs.Messages.{readPoint, readReport, readBit, said, from, toAll, written, refusal as refusalOf, unlessRefused, toAllRefusal, heard as heardOf, heardFrom, heardOfAll, times as timesOf};
+
+// A point, 0 to 256; any other value is blank.
+pub fn read_point(v: u16) -> u16
+    ensures { λ r. ⌜ r ≡ readPoint v ⌝ }
+{
+    if v < Field::MODULUS {
+        return v;
+    }
+    Field::BLANK
+}
+
+// A report, 1; any other value is blank.
+pub fn read_report(v: u16) -> u16
+    ensures { λ r. ⌜ r ≡ readReport v ⌝ }
+{
+    if v == 1 {
+        return v;
+    }
+    Field::BLANK
+}
+
+// A bit, 0 or 1; any other value is blank.
+pub fn read_bit(v: u16) -> u16
+    ensures { λ r. ⌜ r ≡ readBit v ⌝ }
+{
+    if v < 2 {
+        return v;
+    }
+    Field::BLANK
+}
+
+// Value k of a message; blank past its end.
+pub fn value(message: &[u16], k: usize) -> u16
+    ensures { λ r. ⌜ r ≡ said (now (message .entry)) k ⌝ }
+{
+    if k < message.len() {
+        return message[k];
+    }
+    Field::BLANK
+}
+
+// The place of value k of column j + 1's message, where messages have w values.
+fn place(j: u8, w: u16, k: u16) -> usize
+    ensures { λ r. ⌜ r ≡ j * w + k ⌝ }
+{
+    (j as usize) * (w as usize) + k as usize
+}
+
+// The refusal `why` where there is one, else 4 for a slice that is not as long as n messages of w values, else 0.
+pub fn refusal(why: u8, n: u8, w: u16, len: usize) -> u8
+    ensures { λ r. ⌜ r ≡ refusalOf why n w len ⌝ }
+{
+    if why != 0 {
+        return why;
+    }
+    if len == place(n, w, 0) {
+        return 0;
+    }
+    4
+}
+
+// Writes a message of w values to the front of a part of the outgoing slice; refused with 4 where there is no room for it.
+pub fn write(w: u16, message: &[u16], part: &mut [u16]) -> u8
+    ensures { λ r. ⌜ (r ≡ cond (leb w (length (now (part .entry)))) 0 4) × (now (part .exit) ≡ written w (now (message .entry)) (now (part .entry))) ⌝ }
+{
+    let all = w as usize;
+    if part.len() < all {
+        return 4;
+    }
+    for k in 0..all {
+        part[k] = value(message, k);
+    }
+    0
+}
+
+// The same message of w values to each of n columns, each written through the part of the slice that starts at its place. Refused with 1
+// for n outside 4 to 31, and with 4 for a slice of another length; a refused call writes nothing.
+pub fn to_all(n: u8, w: u16, message: &[u16], out: &mut [u16]) -> u8
+    ensures { λ r. ⌜ (r ≡ toAllRefusal n w (length (now (out .entry))))
+        × (now (out .exit) ≡ unlessRefused (toAllRefusal n w (length (now (out .entry)))) (toAll n w (now (message .entry))) (now (out .entry))) ⌝ }
+{
+    let why = refusal(sizes::refusal(n, 1, 1), n, w, out.len());
+    if why != 0 {
+        return why;
+    }
+    for j in 0..n {
+        let at = place(j, w, 0);
+        write(w, message, &mut out[at..]);
+    }
+    0
+}
+
+// Value k from column j, where messages have w values; at its own place the column uses what it would send itself.
+pub fn heard(own: u8, mine: &[u16], w: u16, inbox: &[u16], j: u8, k: u16) -> u16
+    ensures { λ r. ⌜ r ≡ heardOf own (now (mine .entry)) w (now (inbox .entry)) j k ⌝ }
+{
+    if j == own {
+        return value(mine, k as usize);
+    }
+    if j == 0 {
+        return value(inbox, k as usize);
+    }
+    value(inbox, place(j - 1, w, k))
+}
+
+// Value k from column i + 1 of n; blank past n.
+fn heard_from(n: u8, own: u8, mine: &[u16], w: u16, inbox: &[u16], k: u16, i: u8) -> u16
+    requires { ⌜ i ≤ 30 ⌝ }
+    ensures { λ r. ⌜ r ≡ heardFrom n own (now (mine .entry)) w (now (inbox .entry)) k i ⌝ }
+{
+    if i < n {
+        return heard(own, mine, w, inbox, i + 1, k);
+    }
+    Field::BLANK
+}
+
+// Value k from each of n columns, by column number; blank past n.
+pub fn heard_of_all(n: u8, own: u8, mine: &[u16], w: u16, inbox: &[u16], k: u16) -> [u16; 31]
+    ensures { λ r. ⌜ r ≡ heardOfAll n own (now (mine .entry)) w (now (inbox .entry)) k ⌝ }
+{
+    let mut values = [65535u16; 31];
+    for i in 0..31u8 {
+        let at = i as usize;
+        values[at] = heard_from(n, own, mine, w, inbox, k, i);
+    }
+    values
+}
+
+// 1 where x is v, else 0.
+fn one_if(x: u16, v: u16) -> usize
+    ensures { λ r. ⌜ r ≡ bit (eqb x v) ⌝ }
+{
+    if x == v {
+        return 1;
+    }
+    0
+}
+
+// How many of n columns sent v, where their values lie by column number.
+pub fn times(n: u8, values: &[u16], v: u16) -> usize
+    ensures { λ r. ⌜ r ≡ timesOf (from (now (values .entry))) v n ⌝ }
+{
+    let mut sum = 0usize;
+    for i in 0..n {
+        sum += one_if(value(values, i as usize), v);
+    }
+    sum
+}

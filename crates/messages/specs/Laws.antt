@@ -1,11 +1,12 @@
 -- The laws of messages.
 use mathlib.Core.Path.{_≡_, refl, ap, _∙_}
 use mathlib.Core.Bool.{Bool, true, false, cond}
+use mathlib.Core.Logic.{_⊎_, inl, inr}
 use mathlib.Core.List.{List, _++_}
 use Prim.Native.Nat.{ℕ, zero, _+_, _-_, _*_, _≤_, _<_}
 use native.Mathlib.Omega.{arith}
 use native.Mathlib.Decide.{decLt}
-use borrow.Author.Tests.{lt-ltb, le-ltb, le-leb, lt-leb, eq-eqb, ne-eqb}
+use borrow.Author.Tests.{ltb-true, lt-ltb, le-ltb, le-leb, lt-leb, eq-eqb, ne-eqb}
 use lib.Dec.{T, eqb, ltb, eqb→eq}
 use lib.ListN.{length, drop, getD}
 use Rattle.lists.specs.Lists.{listOf, inRow}
@@ -23,6 +24,15 @@ point-is v h = simp (lt-ltb v 257 h)
 pub bit-is : (v : ℕ) → v < 2 → readBit v ≡ v
 unfolding readBit
 bit-is v h = simp (lt-ltb v 2 h)
+
+-- and what is read as a bit is one, or blank
+pub bit-or-blank : (v : ℕ) → (readBit v < 2) ⊎ (readBit v ≡ blank)
+unfolding readBit
+bit-or-blank v = go (ltb v 2) refl
+  where
+    go : (b : Bool) → ltb v 2 ≡ b → (cond b v blank < 2) ⊎ (cond b v blank ≡ blank)
+    go true e = inl (ltb-true v 2 e)
+    go false e = inr refl
 
 -- whether a legal value was received can be asked of the value as it came
 pub same-point : (v x : ℕ) → x < 257 → eqb (readPoint v) x ≡ eqb v x

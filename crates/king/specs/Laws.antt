@@ -1,0 +1,111 @@
+-- What each definition gives: a bit that was received often enough, and nothing but a bit.
+use mathlib.Core.Path.{_≡_, refl, sym, ap, _∙_}
+use mathlib.Core.Bool.{Bool, true, false, cond}
+use mathlib.Core.Logic.{_⊎_, inl, inr}
+use Prim.Native.Nat.{ℕ, zero, suc, _+_, _-_, _≤_, _<_}
+use native.Mathlib.Omega.{arith}
+use borrow.Author.Tests.{le-leb, lt-leb, eq-eqb, ne-eqb}
+use lib.Dec.{T, leb, leb→le, eqb, eqb→eq}
+use Rattle.lists.specs.Tests.{passes}
+use Rattle.lists.specs.Count.{none, count-same}
+use Rattle.field.specs.Field.{blank}
+use Rattle.sizes.specs.Sizes.{faults}
+use Rattle.messages.specs.Messages.{readBit, times}
+use Rattle.messages.specs.Laws.{bit-is, bit-or-blank, same-bit}
+use Rattle.king.specs.King.{bits, proposal, settled, firm, word, crowned}
+
+-- READING AND COUNTING BITS
+
+pub bits-same : (R S : ℕ → ℕ) (j : ℕ) → R j ≡ S j → bits R j ≡ bits S j
+unfolding bits
+bits-same R S j e = ap readBit e
+
+pub bits-is : (R : ℕ → ℕ) (j b : ℕ) → b ≤ 1 → R j ≡ b → bits R j ≡ b
+unfolding bits
+bits-is R j b h e = rw e (bit-is b (omega arith))
+
+pub bits-only : (R : ℕ → ℕ) (j b : ℕ) → b ≤ 1 → bits R j ≡ b → R j ≡ b
+unfolding bits
+bits-only R j b h e = eqb→eq (R j) b (passes _ (sym (same-bit (R j) b (omega arith)) ∙ eq-eqb (readBit (R j)) b e))
+
+-- a bit counts as it came
+pub times-bits : (R : ℕ → ℕ) (b n : ℕ) → b < 2 → times (bits R) b n ≡ times R b n
+unfolding times bits
+times-bits R b n h = count-same (λ j. eqb (readBit (R j)) b) (λ j. eqb (R j) b) n (λ j l u. same-bit (R j) b h)
+
+-- what is no bit is never received
+pub times-none : (R : ℕ → ℕ) (b n : ℕ) → 1 < b → b < blank → times (bits R) b n ≡ 0
+unfolding times bits
+times-none R b n h l = none (λ j. eqb (readBit (R j)) b) n (λ j _ _ t. go (R j) (eqb→eq (readBit (R j)) b t) (bit-or-blank (R j)))
+  where
+    go : (v : ℕ) → readBit v ≡ b → (readBit v < 2) ⊎ (readBit v ≡ blank) → ⊥
+    go v e (inl k) = omega arith
+    go v e (inr k) = omega arith
+
+-- EACH STEP
+
+module _ (n : ℕ) (R : ℕ → ℕ) where
+  -- a bit that a quorum sent, the other not
+  pub proposal-is : (b : ℕ) → b ≤ 1 → n - faults n ≤ times (bits R) b n → times (bits R) (1 - b) n < n - faults n → proposal n R ≡ b
+  unfolding proposal
+  proposal-is zero h l m = rw (lt-leb (n - faults n) (times (bits R) 1 n) m, le-leb (n - faults n) (times (bits R) 0 n) l)
+  proposal-is (suc zero) h l m = rw (le-leb (n - faults n) (times (bits R) 1 n) l)
+  proposal-is (suc (suc b)) h l m = absurd (omega arith)
+
+  -- whoever proposes a bit received it from a quorum
+  pub proposal-only : (b : ℕ) → b ≤ 1 → proposal n R ≡ b → n - faults n ≤ times (bits R) b n
+  unfolding proposal
+  proposal-only zero h e = leb→le _ _ (zero-sent (leb (n - faults n) (times (bits R) 1 n)) (leb (n - faults n) (times (bits R) 0 n)) e)
+    where
+      zero-sent : (p q : Bool) → _≡_ {A = ℕ} (cond p 1 (cond q 0 blank)) 0 → T q
+      zero-sent true q e = absurd (omega arith)
+      zero-sent false true e = tt
+      zero-sent false false e = absurd (omega arith)
+  proposal-only (suc zero) h e = leb→le _ _ (one-sent (leb (n - faults n) (times (bits R) 1 n)) (leb (n - faults n) (times (bits R) 0 n)) e)
+    where
+      one-sent : (p q : Bool) → _≡_ {A = ℕ} (cond p 1 (cond q 0 blank)) 1 → T p
+      one-sent true q e = tt
+      one-sent false true e = absurd (omega arith)
+      one-sent false false e = absurd (omega arith)
+  proposal-only (suc (suc b)) h e = absurd (omega arith)
+
+  -- a bit that t + 1 proposed, the other not
+  pub settled-is : (v b : ℕ) → b ≤ 1 → faults n + 1 ≤ times (bits R) b n → times (bits R) (1 - b) n ≤ faults n → settled n R v ≡ b
+  unfolding settled
+  settled-is v zero h l m = rw (lt-leb (faults n + 1) (times (bits R) 1 n) (omega arith), le-leb (faults n + 1) (times (bits R) 0 n) l)
+  settled-is v (suc zero) h l m = rw (le-leb (faults n + 1) (times (bits R) 1 n) l)
+  settled-is v (suc (suc b)) h l m = absurd (omega arith)
+
+  pub settled-bit : (v : ℕ) → v ≤ 1 → settled n R v ≤ 1
+  unfolding settled
+  settled-bit v h = go (leb (faults n + 1) (times (bits R) 1 n)) (leb (faults n + 1) (times (bits R) 0 n))
+    where
+      go : (p q : Bool) → cond p 1 (cond q 0 v) ≤ 1
+      go true q = omega arith
+      go false true = omega arith
+      go false false = h
+
+-- a king's word is its vote
+pub word-king : (king own vote : ℕ) → own ≡ king → word king own vote ≡ vote
+unfolding word
+word-king king own vote e = simp (eq-eqb own king e)
+
+-- firm or not, the vote and the king's word being one
+pub crowned-is : (F : Bool) (w k b : ℕ) → b ≤ 1 → (T F → w ≡ b) → k ≡ b → crowned F w k ≡ b
+unfolding crowned
+crowned-is true w k b h e f = e tt
+crowned-is false w k b h e f = rw (f, bit-is b (omega arith), ne-eqb b blank (omega arith))
+
+pub crowned-firm : (F : Bool) (w k : ℕ) → T F → crowned F w k ≡ w
+unfolding crowned
+crowned-firm true w k t = refl
+crowned-firm false w k t = absurd t
+
+pub crowned-bit : (F : Bool) (w k : ℕ) → w ≤ 1 → crowned F w k ≤ 1
+unfolding crowned
+crowned-bit true w k h = h
+crowned-bit false w k h = go (bit-or-blank k)
+  where
+    go : (readBit k < 2) ⊎ (readBit k ≡ blank) → cond (eqb (readBit k) blank) 0 (readBit k) ≤ 1
+    go (inl l) = rw (ne-eqb (readBit k) blank (omega arith)) (omega arith)
+    go (inr e) = rw (eq-eqb (readBit k) blank e) (omega arith)

@@ -10,8 +10,8 @@ use native.Mathlib.Decide.{decLt}
 use native.Mathlib.Omega.{arith}
 use lib.ListN.{length, drop, getD, set, length-append, drop-of-length-le, List·getD-append, List·getD-eq-default}
 use lib.Seq.{drop-cons, set-at, getD-append-seam, ext-getD}
-use lib.Dec.{T}
-use Rattle.lists.specs.Lists.{all, sum, Below, listOf}
+use lib.Dec.{T, eqb, eqb→eq, eqb-refl}
+use Rattle.lists.specs.Lists.{all, sum, Below, same, listOf}
 use Rattle.lists.specs.Tests.{and-left, and-right, and-both}
 
 -- ALL
@@ -57,6 +57,21 @@ pub sum-same : (f g : ℕ → ℕ) (n : ℕ) → ((i : ℕ) → 1 ≤ i → i �
 unfolding sum
 sum-same f g zero h = refl
 sum-same f g (suc n) h = ap₂ {C = ℕ} (λ a b. a + b) (sum-same f g n (λ i l u. h i l (le-trans u (le-suc n)))) (h (suc n) (omega arith) (le-refl (suc n)))
+
+-- EQUAL LISTS
+
+pub same-eq : (r s : List ℕ) → T (same r s) → r ≡ s
+unfolding same
+same-eq [] [] t = refl
+same-eq [] (y ∷ ys) t = absurd t
+same-eq (x ∷ xs) [] t = absurd t
+same-eq (x ∷ xs) (y ∷ ys) t =
+    ap₂ {C = List ℕ} (λ a as′. a ∷ as′) (eqb→eq x y (and-left (eqb x y) (same xs ys) t)) (same-eq xs ys (and-right (eqb x y) (same xs ys) t))
+
+pub same-refl : (r : List ℕ) → T (same r r)
+unfolding same
+same-refl [] = tt
+same-refl (x ∷ xs) = and-both (eqb x x) (same xs xs) (eqb-refl x) (same-refl xs)
 
 -- LISTS BY AN INDEX FUNCTION
 

@@ -2,6 +2,7 @@
 use mathlib.Core.Bool.{Bool, true, false, _&&_}
 use mathlib.Core.List.{List, [], _∷_, _++_}
 use Prim.Native.Nat.{ℕ, zero, suc, _+_, _-_, _*_, _<_}
+use lib.Dec.{eqb}
 use lib.ListN.{getD}
 
 -- 1 for a test that passes, else 0
@@ -27,6 +28,13 @@ all P (suc n) = all P n && P n
 -- every entry is below b
 abbrev pub Below : ℕ → List ℕ → Type 0
 Below b l = (i : ℕ) → getD l i 0 < b
+
+-- two lists are one
+unfoldable pub same : List ℕ → List ℕ → Bool
+same [] [] = true
+same [] (y ∷ ys) = false
+same (x ∷ xs) [] = false
+same (x ∷ xs) (y ∷ ys) = eqb x y && same xs ys
 
 module _ {ℓ} {A : Type ℓ} where
   -- f 0, f 1, .. f (n - 1)

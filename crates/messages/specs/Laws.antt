@@ -1,5 +1,5 @@
 -- The laws of messages.
-use mathlib.Core.Path.{_≡_, refl, ap, _∙_}
+use mathlib.Core.Path.{_≡_, refl, sym, ap, _∙_}
 use mathlib.Core.Bool.{Bool, true, false, cond}
 use mathlib.Core.Logic.{_⊎_, inl, inr}
 use mathlib.Core.List.{List, _++_}
@@ -8,12 +8,12 @@ use native.Mathlib.Omega.{arith}
 use native.Mathlib.Decide.{decLt}
 use borrow.Author.Tests.{ltb-true, lt-ltb, le-ltb, le-leb, lt-leb, eq-eqb, ne-eqb}
 use lib.Dec.{T, eqb, ltb, eqb→eq}
-use lib.ListN.{length, drop, getD}
+use lib.ListN.{length, drop, getD, List·getD-eq-default}
 use Rattle.lists.specs.Lists.{listOf, inRow}
-use Rattle.lists.specs.Entries.{getD-listOf}
+use Rattle.lists.specs.Entries.{length-listOf, getD-listOf}
 use Rattle.lists.specs.Tests.{passes}
 use Rattle.field.specs.Field.{blank}
-use Rattle.messages.specs.Messages.{readPoint, readReport, readBit, said, from, written, refusal, unlessRefused, heard, heardFrom, heardOfAll}
+use Rattle.messages.specs.Messages.{readPoint, readReport, readBit, said, from, laid, written, refusal, unlessRefused, heard, heardFrom, heardOfAll}
 
 -- WHAT A VALUE SAYS: a legal value is itself
 
@@ -66,8 +66,23 @@ pub from-place : (values : List ℕ) (i : ℕ) → from values (i + 1) ≡ said 
 unfolding from said
 from-place values i = ap (λ (q : ℕ). getD values q blank) (omega arith)
 
+-- a message is as it was in places enough
+pub said-laid : (w : ℕ) (message : List ℕ) (k : ℕ) → length message ≤ w → said (laid w message) k ≡ said message k
+unfolding said laid
+said-laid w message k h = go (decLt k w)
+  where
+    go : Dec (k < w) → getD (listOf (said message) w) k blank ≡ getD message k blank
+    go (yes l) = getD-listOf (said message) w k blank l
+    go (no l) =
+        List·getD-eq-default (listOf (said message) w) blank {n = k} (omega (arith, length-listOf (said message) w))
+        ∙ sym (List·getD-eq-default message blank {n = k} (omega arith))
+
+pub length-laid : (w : ℕ) (message : List ℕ) → length (laid w message) ≡ w
+unfolding laid
+length-laid w message = length-listOf (said message) w
+
 pub written-fits : (w : ℕ) (message part : List ℕ) → w ≤ length part → written w message part ≡ listOf (said message) w ++ drop w part
-unfolding written
+unfolding written laid
 written-fits w message part h = simp (le-leb w (length part) h)
 
 pub not-written : (w : ℕ) (message part : List ℕ) → length part < w → written w message part ≡ part

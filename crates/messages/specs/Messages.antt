@@ -35,9 +35,13 @@ from values j = getD values (j - 1) blank
 unfoldable pub toAll : ℕ → ℕ → List ℕ → List ℕ
 toAll n w message = rowsOf (λ j. said message) w n
 
+-- a message in w places, blank past its end
+unfoldable pub laid : ℕ → List ℕ → List ℕ
+laid w message = listOf (said message) w
+
 -- what stands in a part of the outgoing slice after a message of w values was written to its front; one that has no room stays as it was
 unfoldable pub written : ℕ → List ℕ → List ℕ → List ℕ
-written w message part = cond (leb w (length part)) (listOf (said message) w ++ drop w part) part
+written w message part = cond (leb w (length part)) (laid w message ++ drop w part) part
 
 -- "4: a slice .. whose length is not the one required": n messages of w values. A refusal `why` of what comes before stands; 0 for none
 unfoldable pub refusal : ℕ → ℕ → ℕ → ℕ → ℕ

@@ -17,9 +17,10 @@ pub faults-le : (n : ℕ) → faults n ≤ n
 unfolding faults
 faults-le n = omega arith
 
-pub degree-le : (n : ℕ) → degree n ≤ n
-unfolding degree
-degree-le n = omega (arith, faults-le n)
+-- nine of d are no more than n
+pub degree-le : (n : ℕ) → 9 * degree n ≤ n
+unfolding faults degree
+degree-le n = omega arith
 
 pub blocks-le : (n m : ℕ) → blocks n m ≤ m
 unfolding blocks

@@ -1,0 +1,63 @@
+-- `values` meets its contract.
+use native.Mathlib.Omega.{arith}
+use Prim.Native.Nat.{_-_}
+use borrow.Author.Needs.{needs}
+use Rattle.lists.specs.Loops.{Filled, filled-none, filled-more, filled-done}
+use Rattle.messages.specs.Messages.{said, laid}
+use Rattle.codeword.specs.Codeword.{values}
+use Rattle.codeword.proofs.values.Statement.{statement}
+use Rattle.codeword.proofs.values.Tie as tie
+
+abbrev Inv-loop : tie.InvT-loop
+Inv-loop n m x bytes all₀ k₀ all k = Filled (said (values n m bytes x)) 32 all₀ all k
+
+abbrev μ-loop : tie.MeasureT-loop
+μ-loop n m x bytes all₀ k₀ all k = 32 - k
+
+loop-holds : tie.Need-loop-holds Inv-loop μ-loop
+loop-holds c = filled-none _ _ _ (omega arith)
+
+cast-at : tie.Need-cast-at Inv-loop μ-loop
+cast-at c = omega arith
+
+slice-aggregate-value : tie.Need-slice-aggregate-value Inv-loop μ-loop
+slice-aggregate-value c = search needs
+
+value-requires : tie.Need-value-requires Inv-loop μ-loop
+value-requires c κs = tt
+
+mul-all : tie.Need-mul-all Inv-loop μ-loop
+mul-all c = omega arith
+
+array-write-all : tie.Need-array-write-all Inv-loop μ-loop
+array-write-all c = omega arith
+
+add-k : tie.Need-add-k Inv-loop μ-loop
+add-k c = omega arith
+
+loop-less : tie.Need-loop-less Inv-loop μ-loop
+loop-less c = omega arith
+
+loop-again : tie.Need-loop-again Inv-loop μ-loop
+loop-again c = filled-more _ _ _ _ _ _ (c .before .before .before .loop .inv) (omega arith) (c .value .ensures)
+
+returns : tie.Need-returns Inv-loop μ-loop
+unfolding laid
+returns c = filled-done _ _ _ _ _ (c .before .loop .inv) (omega arith) (omega arith)
+
+pub values-spec : {M : Type 1} → statement M
+values-spec =
+    tie.close
+    (tie.spec
+    Inv-loop
+    μ-loop
+    loop-holds
+    cast-at
+    slice-aggregate-value
+    value-requires
+    mul-all
+    array-write-all
+    add-k
+    loop-less
+    loop-again
+    returns)

@@ -1,0 +1,4 @@
+-- A record as a codeword: its values at a point, one for each block. Document 01, "Sizes of a wall" and "Rounds".
+-- Codeword: the definitions. Apart: two different records meet at no more than d of n points.
+pub mod Codeword
+pub mod Apart

@@ -47,6 +47,12 @@ all-fails P zero i h t = absurd (omega arith)
 all-fails P (suc n) i h t =
     ⊎-elim (λ (e : i ≡ n). rw (rw e at t) (both-false (all P n))) (λ l. rw (all-fails P n i l t) refl) (eq-or-lt-of-le (le-of-suc-le-suc h))
 
+-- tests that agree at each number
+pub all-same : (P Q : ℕ → Bool) (n : ℕ) → ((i : ℕ) → i < n → P i ≡ Q i) → all P n ≡ all Q n
+unfolding all
+all-same P Q zero h = refl
+all-same P Q (suc n) h = ap₂ {C = Bool} (λ a b. a && b) (all-same P Q n (λ i l. h i (le-trans l (le-suc n)))) (h n (le-refl (suc n)))
+
 -- SUM
 
 pub sum-more : (f : ℕ → ℕ) (n : ℕ) → sum f (n + 1) ≡ sum f n + f (n + 1)

@@ -10,7 +10,7 @@ use borrow.Author.Tests.{ltb-true, lt-ltb, le-ltb, le-leb, lt-leb, eq-eqb, ne-eq
 use lib.Dec.{T, eqb, ltb, eqb→eq}
 use lib.ListN.{length, drop, getD, List·getD-eq-default}
 use Rattle.lists.specs.Lists.{listOf, inRow}
-use Rattle.lists.specs.Entries.{length-listOf, getD-listOf}
+use Rattle.lists.specs.Entries.{length-listOf, getD-listOf, listOf-same}
 use Rattle.lists.specs.Tests.{passes}
 use Rattle.field.specs.Field.{blank}
 use Rattle.messages.specs.Messages.{readPoint, readReport, readBit, said, from, laid, written, refusal, unlessRefused, heard, heardFrom, heardOfAll}
@@ -81,9 +81,23 @@ pub length-laid : (w : ℕ) (message : List ℕ) → length (laid w message) ≡
 unfolding laid
 length-laid w message = length-listOf (said message) w
 
+laid-is : (w : ℕ) (message : List ℕ) → laid w message ≡ listOf (said message) w
+unfolding laid
+laid-is w message = refl
+
+pub laid-laid : (w v : ℕ) (message : List ℕ) → length message ≤ v → laid w (laid v message) ≡ laid w message
+unfolding laid
+laid-laid w v message h = listOf-same (said (laid v message)) (said message) w (λ k _. said-laid v message k h)
+
 pub written-fits : (w : ℕ) (message part : List ℕ) → w ≤ length part → written w message part ≡ listOf (said message) w ++ drop w part
 unfolding written laid
 written-fits w message part h = simp (le-leb w (length part) h)
+
+-- from a message that lies in more places than it needs
+pub written-laid : (w v : ℕ) (message part : List ℕ) → w ≤ length part → length message ≤ v
+    → written w (laid v message) part ≡ listOf (said message) w ++ drop w part
+unfolding written
+written-laid w v message part h l = rw (le-leb w (length part) h, laid-laid w v message l, laid-is w message)
 
 pub not-written : (w : ℕ) (message part : List ℕ) → length part < w → written w message part ≡ part
 unfolding written
@@ -132,6 +146,11 @@ module _ (own : ℕ) (mine : List ℕ) (w : ℕ) (inbox : List ℕ) where
   pub heard-other : (j k : ℕ) → (j ≡ own → ⊥) → heard own mine w inbox j k ≡ inRow w inbox j k blank
   unfolding heard
   heard-other j k h = simp (ne-eqb j own h)
+
+  -- what the column would send itself may lie in more places than it needs
+  pub heard-laid : (v j k : ℕ) → length mine ≤ v → heard own (laid v mine) w inbox j k ≡ heard own mine w inbox j k
+  unfolding heard
+  heard-laid v j k h = rw (said-laid v mine k h)
 
   -- column j's of the values from all columns
   pub from-heard : (n k j : ℕ) → 1 ≤ j → j ≤ n → n ≤ 31 → from (heardOfAll n own mine w inbox k) j ≡ heard own mine w inbox j k

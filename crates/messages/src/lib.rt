@@ -50,7 +50,7 @@ pub fn value(message: &[u16], k: usize) -> u16
 }
 
 // The place of value k of column j + 1's message, where messages have w values.
-fn place(j: u8, w: u16, k: u16) -> usize
+pub fn place(j: u8, w: u16, k: u16) -> usize
     ensures { λ r. ⌜ r ≡ j * w + k ⌝ }
 {
     (j as usize) * (w as usize) + k as usize

@@ -9,17 +9,18 @@ use borrow.Author.Tests.{lt-ltb, le-ltb, ne-eqb}
 use lib.Dec.{T, eqb, ltb, eqb→eq}
 use lib.ListN.{length, getD, replicate, length-append, List·getD-append}
 use lib.Seq.{getD-append-add}
-use Rattle.lists.specs.Lists.{all, listOf, rowsOf}
+use Rattle.lists.specs.Lists.{count, all, listOf}
 use Rattle.lists.specs.Tests.{conj, and-both, T-ext, eq→eqb}
 use Rattle.lists.specs.Entries.{all-each, each-all, all-same, listOf-same}
 use Rattle.field.specs.Field.{blank}
 use Rattle.sizes.specs.Sizes.{blocks, refusal}
 use Rattle.sizes.specs.Laws.{accepted, blocks-le}
-use Rattle.messages.specs.Messages.{readPoint, said, laid, heard}
-use Rattle.messages.specs.Laws.{said-laid, heard-laid, accepted as messages-accepted}
+use Rattle.messages.specs.Messages.{readPoint, readReport, said, laid, heard, times}
+use Rattle.lists.specs.Count.{count-same}
+use Rattle.messages.specs.Laws.{same-report, said-laid, heard-laid, accepted as messages-accepted}
 use Rattle.codeword.specs.Codeword.{point, values, meetIn, meets}
 use Rattle.codeword.specs.Apart.{point-lt, length-values, said-values}
-use Rattle.dispersal.specs.Dispersal.{exchange, agreesIn, agreesWith, agreementAt, agreements, exchangeRefusal, agreed}
+use Rattle.dispersal.specs.Dispersal.{exchange, agreesIn, agreesWith, agreementAt, agreements, agrees, reported, both, reportsOf, exchangeRefusal, agreed}
 use Rattle.dispersal.specs.declared.exchange.Agreed.{Agreed}
 
 -- THE MESSAGE OF THE EXCHANGE
@@ -157,3 +158,24 @@ module _ (n m own : ℕ) (bytes inbox : List ℕ) (r : ℕ) (e : r ≡ exchangeR
   pub agreed-done : (flags : List Bool) → r ≡ 0 → flags ≡ agreements n m own bytes inbox → record { refusal = 0; flags = flags } ≡ agreed n m own bytes inbox
   unfolding agreed
   agreed-done flags z f = rw (← e, z, f) refl
+
+-- REPORTS
+
+-- the columns in a set and itself
+pub both-self : (flags : List Bool) (n : ℕ) → count (both (agrees flags) (reported flags)) n ≡ count (agrees flags) n
+unfolding both agrees reported
+both-self flags n = count-same (both (agrees flags) (reported flags)) (agrees flags) n (λ j l u. twice (getD flags (j - 1) false))
+  where
+    twice : (b : Bool) → b && b ≡ b
+    twice true = refl
+    twice false = refl
+
+-- column i + 1's flag lies at place i
+pub both-place : (some others : List Bool) (i : ℕ) → both (agrees some) (reported others) (i + 1) ≡ getD some i false && getD others i false
+unfolding both agrees reported
+both-place some others i = let e : i + 1 - 1 ≡ i = omega arith in rw e
+
+-- a report is read as it came
+pub times-reports : (received : ℕ → ℕ) (n : ℕ) → times (reportsOf received) 1 n ≡ times received 1 n
+unfolding times reportsOf
+times-reports received n = count-same (λ j. eqb (readReport (received j)) 1) (λ j. eqb (received j) 1) n (λ j l u. same-report (received j))

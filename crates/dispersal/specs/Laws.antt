@@ -17,7 +17,7 @@ use Rattle.sizes.specs.Sizes.{blocks, refusal}
 use Rattle.sizes.specs.Laws.{accepted, blocks-le}
 use Rattle.messages.specs.Messages.{readPoint, readReport, said, laid, heard, times}
 use Rattle.lists.specs.Count.{count-same}
-use Rattle.messages.specs.Laws.{same-report, said-laid, heard-laid, accepted as messages-accepted}
+use Rattle.messages.specs.Laws.{point-is, same-report, said-laid, heard-laid, accepted as messages-accepted}
 use Rattle.codeword.specs.Codeword.{point, values, meetIn, meets}
 use Rattle.codeword.specs.Apart.{point-lt, length-values, said-values}
 use Rattle.dispersal.specs.Dispersal.{exchange, agreesIn, agreesWith, agreementAt, agreements, agrees, reported, both, reportsOf, exchangeRefusal, agreed}
@@ -179,3 +179,34 @@ both-place some others i = let e : i + 1 - 1 ≡ i = omega arith in rw e
 pub times-reports : (received : ℕ → ℕ) (n : ℕ) → times (reportsOf received) 1 n ≡ times received 1 n
 unfolding times reportsOf
 times-reports received n = count-same (λ j. eqb (readReport (received j)) 1) (λ j. eqb (received j) 1) n (λ j l u. same-report (received j))
+
+-- BETWEEN SOUND COLUMNS
+
+-- what i, holding r, makes of the message of j, holding s: the records meet at both points
+pub agrees-meets : (n m i j : ℕ) (r s : List ℕ) → agreesWith n m i r j (said (exchange n m j s i)) ≡ (meets n m r s j && meets n m r s i)
+unfolding meets meetIn
+agrees-meets n m i j r s = T-ext (agreesWith n m i r j (said (exchange n m j s i))) (meets n m r s j && meets n m r s i)
+    (λ h. and-both (meets n m r s j) (meets n m r s i)
+    (each-all (meetIn n r s j) (blocks n m) (λ k l. eq→eqb (point n r j k) (point n s j k) (sym (first-agrees n m i r j received h k l) ∙ sent-first k l)))
+    (each-all (meetIn n r s i) (blocks n m) (λ k l. eq→eqb (point n r i k) (point n s i k) (sym (second-agrees n m i r j received h k l) ∙ sent-second k l))))
+    (λ h.
+    let p : T (meets n m r s j) = search conj in
+    let q : T (meets n m r s i) = search conj in
+    both-agree n m i r j received
+    (λ k l. sent-first k l ∙ sym (eqb→eq (point n r j k) (point n s j k) (all-each (meetIn n r s j) (blocks n m) p k l)))
+    (λ k l. sent-second k l ∙ sym (eqb→eq (point n r i k) (point n s i k) (all-each (meetIn n r s i) (blocks n m) q k l))))
+  where
+    received : ℕ → ℕ
+    received = said (exchange n m j s i)
+
+    sent-first : (k : ℕ) → k < blocks n m → readPoint (said (exchange n m j s i) k) ≡ point n s j k
+    sent-first k l = rw (first-value n m j s i k l) (point-is (point n s j k) (point-lt n s j k))
+
+    sent-second : (k : ℕ) → k < blocks n m → readPoint (said (exchange n m j s i) (blocks n m + k)) ≡ point n s i k
+    sent-second k l = rw (second-value n m j s i k, said-values n m s i k l) (point-is (point n s i k) (point-lt n s i k))
+
+-- a report that was sent is read
+pub report-read : (b : Bool) → eqb (readReport (cond b 1 blank)) 1 ≡ b
+unfolding readReport
+report-read true = refl
+report-read false = refl

@@ -44,7 +44,7 @@ said-past n m bytes x k h = List·getD-eq-default (values n m bytes x) blank {n 
 -- BLOCKS
 
 -- byte p stands in block p / (d + 1), at place p % (d + 1)
-byte-at : (d : ℕ) (r : List ℕ) (p : ℕ) → getD (block d r (p / (d + 1))) (p % (d + 1)) 0 ≡ getD r p 0
+pub byte-at : (d : ℕ) (r : List ℕ) (p : ℕ) → getD (block d r (p / (d + 1))) (p % (d + 1)) 0 ≡ getD r p 0
 byte-at d r p =
     getD-part r (p / (d + 1) * (d + 1)) (d + 1) (p % (d + 1)) (mod-lt p (omega arith)) ∙ ap (λ (q : ℕ). getD r q 0) (div-add-mod' p (d + 1))
 

@@ -1,0 +1,124 @@
+-- The kept point: the least of the points that were received at least t + 1 times.
+use mathlib.Core.Path.{_≡_, refl, sym, ap, _∙_}
+use mathlib.Core.Logic.{_⊎_, inl, inr}
+use mathlib.Core.Bool.{Bool, true, false, cond, _&&_}
+use mathlib.Core.List.{List}
+use Prim.Native.Nat.{ℕ, zero, suc, _+_, _≤_, _<_}
+use native.Mathlib.Nat.{eq-or-lt-of-le}
+use native.Mathlib.Omega.{arith}
+use native.Mathlib.Decide.{decLt}
+use borrow.Author.Tests.{ltb-true, ltb-false}
+use lib.Dec.{T, eqb, leb, ltb, leb→le, eqb→eq}
+use Rattle.lists.specs.Lists.{count}
+use Rattle.lists.specs.Tests.{is-true, passes}
+use Rattle.lists.specs.Count.{find, Found, count-same}
+use Rattle.field.specs.Field.{blank}
+use Rattle.sizes.specs.Sizes.{faults}
+use Rattle.messages.specs.Messages.{times}
+use Rattle.dissemination.specs.Dissemination.{least, often, keptPoint}
+
+-- THE LEAST NUMBER THAT PASSES
+
+pub least-is : (P : ℕ → Bool) (v : ℕ) → T (P v) → ((w : ℕ) → w < v → T (P w) → ⊥) → (count u : ℕ) → u ≤ v → v < u + count → least P count u ≡ v
+unfolding least
+least-is P v h f zero u l m = absurd (omega arith)
+least-is P v h f (suc count) u l m = go (P u) refl (eq-or-lt-of-le l) (least-is P v h f count (suc u))
+  where
+    go : (b : Bool) → P u ≡ b → (u ≡ v) ⊎ (u < v) → (suc u ≤ v → v < suc u + count → least P count (suc u) ≡ v) → cond (P u) u (least P count (suc u)) ≡ v
+    go true e (inl q) g = rw e q
+    go true e (inr q) g = absurd (f u q (passes (P u) e))
+    go false e (inl q) g = let t : T (P u) = rw q h in absurd (rw e at t)
+    go false e (inr q) g = rw e (g q (omega arith))
+
+pub least-none : (P : ℕ → Bool) (count u : ℕ) → ((w : ℕ) → u ≤ w → w < u + count → T (P w) → ⊥) → least P count u ≡ blank
+unfolding least
+least-none P zero u f = refl
+least-none P (suc count) u f = go (P u) refl (least-none P count (suc u) (λ w l m. f w (omega arith) (omega arith)))
+  where
+    go : (b : Bool) → P u ≡ b → least P count (suc u) ≡ blank → cond (P u) u (least P count (suc u)) ≡ blank
+    go true e g = absurd (f u (omega arith) (omega arith) (passes (P u) e))
+    go false e g = rw e g
+
+pub least-same : (P Q : ℕ → Bool) → ((v : ℕ) → P v ≡ Q v) → (count u : ℕ) → least P count u ≡ least Q count u
+unfolding least
+least-same P Q h zero u = refl
+least-same P Q h (suc count) u = rw (h u, least-same P Q h count (suc u))
+
+-- THE KEPT POINT
+
+pub kept-same : (n : ℕ) (f g : ℕ → ℕ) → ((j : ℕ) → 1 ≤ j → j ≤ n → f j ≡ g j) → keptPoint n f ≡ keptPoint n g
+unfolding keptPoint often times
+kept-same n f g h =
+    least-same (often n f) (often n g) (λ v.
+    ap (λ (k : ℕ). leb (faults n + 1) k) (count-same (λ j. eqb (f j) v) (λ j. eqb (g j) v) n (λ j l u. rw (h j l u)))) 257 0
+
+-- a point that was received often, and no other was
+pub kept-is : (n : ℕ) (received : ℕ → ℕ) (v : ℕ) → v < 257 → T (often n received v) → ((w : ℕ) → w < v → T (often n received w) → ⊥) → keptPoint n received ≡ v
+unfolding keptPoint
+kept-is n received v l h f = least-is (often n received) v h f 257 0 (omega arith) (omega arith)
+
+-- LOOKING FOR IT AMONG WHAT WAS RECEIVED
+
+-- the better of the best so far and v
+unfoldable pub better : ℕ → (ℕ → ℕ) → ℕ → ℕ → ℕ
+better n received best v = cond (ltb v best && ltb v 257 && often n received v) v best
+
+-- the best of the columns 1 to i, of n
+pub record Best (n : ℕ) (received : ℕ → ℕ) (i best : ℕ) : Type 0 where
+  pub within : i ≤ n
+  pub one : (best ≡ blank) ⊎ ((best < 257) × T (often n received best))
+  pub most : best ≤ blank
+  pub lowest : (j : ℕ) → 1 ≤ j → j ≤ i → received j < 257 → T (often n received (received j)) → best ≤ received j
+
+pub best-none : (n : ℕ) (received : ℕ → ℕ) → Best n received 0 blank
+best-none n received = record { within = omega arith; one = inl refl; most = omega arith; lowest = λ j l u h t. absurd (omega arith) }
+
+pub best-more : (n : ℕ) (received : ℕ → ℕ) (i best r : ℕ) → Best n received i best → i < n → r ≡ better n received best (received (i + 1)) → Best n received (i + 1) r
+unfolding better
+best-more n received i best r b h e =
+    rw e (go (ltb (received (i + 1)) best) (ltb (received (i + 1)) 257) (often n received (received (i + 1))) refl refl refl)
+  where
+    -- the next column too
+    next : (x : ℕ) → x ≤ best → (received (i + 1) < 257 → T (often n received (received (i + 1))) → x ≤ received (i + 1))
+        → (j : ℕ) → 1 ≤ j → j ≤ i + 1 → received j < 257 → T (often n received (received j)) → x ≤ received j
+    next x le f j l u k t = at-most (eq-or-lt-of-le u)
+      where
+        at-most : (j ≡ i + 1) ⊎ (j < i + 1) → x ≤ received j
+        at-most (inl q) = rw q (f (rw q at k) (rw q at t))
+        at-most (inr q) = omega (arith, le, b .lowest j l (omega arith) k t)
+
+    stays : (received (i + 1) < 257 → T (often n received (received (i + 1))) → best ≤ received (i + 1)) → Best n received (i + 1) best
+    stays f = record { within = omega arith; one = b .one; most = b .most; lowest = next best (omega arith) f }
+
+    go : (p q s : Bool) → ltb (received (i + 1)) best ≡ p → ltb (received (i + 1)) 257 ≡ q → often n received (received (i + 1)) ≡ s
+        → Best n received (i + 1) (cond (p && q && s) (received (i + 1)) best)
+    go true true true ep eq es =
+        let l = ltb-true (received (i + 1)) best ep in
+        record {
+          within = omega arith;
+          one = inr (ltb-true (received (i + 1)) 257 eq, passes _ es);
+          most = omega (arith, b .most);
+          lowest = next (received (i + 1)) (omega arith) (λ _ _. omega arith);
+        }
+    go false q s ep eq es = stays (λ _ _. ltb-false (received (i + 1)) best ep)
+    go true false s ep eq es = stays (λ l _. absurd (omega (arith, ltb-false (received (i + 1)) 257 eq)))
+    go true true false ep eq es = stays (λ _ t. absurd (rw es at t))
+
+-- who was received often was received from some column
+seen : (n : ℕ) (received : ℕ → ℕ) (w : ℕ) → T (often n received w) → Found (λ j. eqb (received j) w) n
+unfolding often times
+seen n received w t = find (λ j. eqb (received j) w) n (omega (arith, leb→le (faults n + 1) (count (λ j. eqb (received j) w) n) t))
+
+pub best-done : (n : ℕ) (received : ℕ → ℕ) (i best : ℕ) → Best n received i best → n ≤ i → best ≡ keptPoint n received
+unfolding keptPoint Found
+best-done n received i best b h = sym (go (b .one))
+  where
+    lowest : (w : ℕ) → w < 257 → T (often n received w) → best ≤ w
+    lowest w l t =
+        let (j, a, u, q) = seen n received w t in
+        let e = eqb→eq (received j) w q in
+        omega (arith, e, b .lowest j a (omega (arith, b .within)) (rw e l) (rw e t))
+
+    go : (best ≡ blank) ⊎ ((best < 257) × T (often n received best)) → least (often n received) 257 0 ≡ best
+    go (inl e) = least-none (often n received) 257 0 (λ w _ l t. omega (arith, e, lowest w (omega arith) t)) ∙ sym e
+    go (inr (l, t)) = least-is (often n received) best t (λ w k s. omega (arith, lowest w (omega arith) s)) 257 0 (omega arith) (omega arith)

@@ -1,0 +1,7 @@
+-- Data dissemination, Protocol 3.8: document 01, "Rounds" 5 and 6. Dissemination: the definitions. Run: what sound columns do in it, and
+-- Definition 3.7 as a statement of them. Spread: THE THEOREM, Theorem 3.9. Laws, Kept: what the calls and upper floors use.
+pub mod Dissemination
+pub mod Laws
+pub mod Kept
+pub mod Run
+pub mod Spread

@@ -17,7 +17,7 @@ use Rattle.sizes.specs.Sizes.{blocks, refusal}
 use Rattle.sizes.specs.Laws.{accepted, blocks-le}
 use Rattle.messages.specs.Messages.{readPoint, readReport, said, laid, heard, times}
 use Rattle.lists.specs.Count.{count-same}
-use Rattle.messages.specs.Laws.{point-is, same-report, said-laid, heard-laid, accepted as messages-accepted}
+use Rattle.messages.specs.Laws.{point-is, same-report, said-laid, heard-same, accepted as messages-accepted}
 use Rattle.codeword.specs.Codeword.{point, values, meetIn, meets}
 use Rattle.codeword.specs.Apart.{point-lt, length-values, said-values}
 use Rattle.dispersal.specs.Dispersal.{exchange, agreesIn, agreesWith, agreementAt, agreements, agrees, reported, both, reportsOf, exchangeRefusal, agreed}
@@ -142,7 +142,7 @@ agreement-is n m own bytes inbox i b me expected r l e f g =
     fits x = omega (arith, length-exchange n m x bytes own, few-blocks n m own r)
 
     same : (k : ℕ) → k < w → sameIn (laid 64 theirs) (heard own (laid 64 mine) w inbox (i + 1)) k ≡ sameIn theirs (heard own mine w inbox (i + 1)) k
-    same k _ = rw (heard-laid own mine w inbox 64 (i + 1) k (fits own), said-laid 64 theirs k (fits (i + 1)))
+    same k _ = rw (heard-same own (laid 64 mine) w inbox mine (i + 1) k (said-laid 64 mine k (fits own)), said-laid 64 theirs k (fits (i + 1)))
 
 -- THE CALLS ON SLICES
 

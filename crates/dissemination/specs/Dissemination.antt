@@ -12,7 +12,7 @@ use Rattle.sizes.specs.Sizes.{faults, degree, blocks, refusal as refusalOfSizes
 use Rattle.messages.specs.Messages.{readPoint, said, refusal, heard, times}
 use Rattle.codeword.specs.Codeword.{values}
 use Rattle.decoder.specs.Decoder.{decoded, polynomialOf}
-use Rattle.dissemination.specs.declared.points.Kept.{Kept}
+use Rattle.dissemination.specs.declared.points.KeptPoints.{KeptPoints}
 use Rattle.dissemination.specs.declared.decoding.Disseminated.{Disseminated}
 
 -- values, or none of them: blanks
@@ -35,7 +35,7 @@ pointsToAll n m speaks bytes = rowsOf (λ j. said (points n m speaks bytes j)) (
 -- the least of `count` numbers from u on that passes the test; blank if none does
 unfoldable pub least : (ℕ → Bool) → ℕ → ℕ → ℕ
 least P zero u = blank
-least P (suc count) u = cond (P u) u (least P count (suc u))
+least P (suc count) u = let rest = least P count (suc u) in cond (P u) u rest
 
 -- v was received at least t + 1 times
 unfoldable pub often : ℕ → (ℕ → ℕ) → ℕ → Bool
@@ -91,7 +91,7 @@ recordOf n m received = cond (all (isBlock n m received) (blocks n m)) (some (li
 unfoldable pub roundRefusal : ℕ → ℕ → ℕ → ℕ → ℕ
 roundRefusal n m own len = refusal (refusalOfSizes n m own) n (blocks n m) len
 
-unfoldable pub kept : ℕ → ℕ → ℕ → Bool → List ℕ → List ℕ → Kept
+unfoldable pub kept : ℕ → ℕ → ℕ → Bool → List ℕ → List ℕ → KeptPoints
 kept n m own speaks bytes inbox =
     record {
       refusal = roundRefusal n m own (length inbox);

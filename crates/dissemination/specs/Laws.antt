@@ -1,1 +1,93 @@
-use mathlib.Core.Path.{_≡_}
+-- The laws that the calls use.
+use mathlib.Core.Path.{_≡_, refl, sym, ap, _∙_}
+use mathlib.Core.Bool.{Bool, true, false, cond}
+use mathlib.Core.List.{List, []}
+use Prim.Native.Nat.{ℕ, zero, suc, _+_, _-_, _*_, _≤_, _<_}
+use native.Mathlib.Omega.{arith}
+use borrow.Author.Tests.{lt-ltb, ne-eqb}
+use lib.Dec.{eqb}
+use lib.ListN.{length, getD, replicate}
+use Rattle.lists.specs.Lists.{listOf}
+use Rattle.lists.specs.Entries.{getD-listOf, listOf-same}
+use Rattle.field.specs.Field.{blank}
+use Rattle.sizes.specs.Sizes.{blocks, refusal}
+use Rattle.sizes.specs.Laws.{accepted, blocks-le}
+use Rattle.messages.specs.Messages.{readPoint, said, from, laid, heard, heardOfAll}
+use Rattle.messages.specs.Laws.{said-laid, from-place, from-heard, heard-same, accepted as messages-accepted}
+use Rattle.codeword.specs.Codeword.{values}
+use Rattle.codeword.specs.Apart.{length-values}
+use Rattle.dissemination.specs.Dissemination.{spoken, pointsIn, points, keptPoint, keptAt, keptPoints, roundRefusal, kept}
+use Rattle.dissemination.specs.Kept.{kept-same}
+use Rattle.dissemination.specs.declared.points.KeptPoints.{KeptPoints}
+
+-- SPEAKING OR NOT
+
+-- a message in 32 places, or blanks
+unfoldable pub silenced : Bool → List ℕ → List ℕ
+silenced speaks message = cond speaks message (replicate 32 blank)
+
+pub said-silenced : (speaks : Bool) (message : List ℕ) (k : ℕ) → said (silenced speaks message) k ≡ said (spoken speaks message) k
+unfolding silenced spoken said
+said-silenced true message k = refl
+said-silenced false message k = blanks 32 k
+  where
+    blanks : (w k : ℕ) → getD (replicate w blank) k blank ≡ blank
+    blanks zero k = refl
+    blanks (suc w) zero = refl
+    blanks (suc w) (suc k) = blanks w k
+
+pub length-silenced : (speaks : Bool) (message : List ℕ) → length message ≤ 32 → length (spoken speaks message) ≤ 32
+unfolding spoken
+length-silenced true message h = h
+length-silenced false message h = omega arith
+
+-- READING POINTS
+
+-- place i of values, read as a point
+unfoldable pub readAt : List ℕ → ℕ → ℕ
+readAt values i = readPoint (said values i)
+
+-- the points of block k that were read from the values of all columns
+pub points-read : (n own : ℕ) (mine : List ℕ) (w : ℕ) (inbox : List ℕ) (k j : ℕ) → 1 ≤ j → j ≤ n → n ≤ 31
+    → from (listOf (readAt (heardOfAll n own mine w inbox k)) 31) j ≡ pointsIn own mine w inbox k j
+unfolding from said readAt pointsIn
+points-read n own mine w inbox k j l u h =
+    getD-listOf (readAt (heardOfAll n own mine w inbox k)) 31 (j - 1) blank (omega arith) ∙ ap readPoint (from-heard own mine w inbox n k j l u h)
+
+-- THE CALLS OF THE FIRST ROUND
+
+pub round-accepted : (n m own len : ℕ) → roundRefusal n m own len ≡ 0 → (refusal n m own ≡ 0) × (len ≡ n * blocks n m)
+unfolding roundRefusal
+round-accepted n m own len e = messages-accepted (refusal n m own) n (blocks n m) len e
+
+pub few-blocks : (n m own : ℕ) → refusal n m own ≡ 0 → blocks n m ≤ 32
+few-blocks n m own e = omega (arith, blocks-le n m, accepted n m own e .range .bytes-high)
+
+-- the column's own message, in 32 places
+pub said-own : (n m : ℕ) (speaks : Bool) (bytes : List ℕ) (x : ℕ) → blocks n m ≤ 32 → (all : List ℕ) → all ≡ laid 32 (values n m bytes x)
+    → (k : ℕ) → said (silenced speaks all) k ≡ said (points n m speaks bytes x) k
+unfolding points spoken
+said-own n m speaks bytes x h all e k = said-silenced speaks all k ∙ rw e (go speaks)
+  where
+    go : (b : Bool) → said (spoken b (laid 32 (values n m bytes x))) k ≡ said (spoken b (values n m bytes x)) k
+    go true = said-laid 32 (values n m bytes x) k (omega (arith, length-values n m bytes x))
+    go false = refl
+
+-- the kept point of a block, from the values of all columns
+pub kept-at : (n m own : ℕ) (speaks : Bool) (bytes inbox mine : List ℕ) (b k : ℕ) → refusal n m own ≡ 0 → b ≡ blocks n m → k < b
+    → ((i : ℕ) → said mine i ≡ said (points n m speaks bytes own) i)
+    → keptPoint n (from (listOf (readAt (heardOfAll n own mine b inbox k)) 31)) ≡ keptAt n m own speaks bytes inbox k
+unfolding keptAt pointsIn
+kept-at n m own speaks bytes inbox mine b k r e l f =
+    rw (e, lt-ltb k (blocks n m) (omega (arith, e))) (kept-same n _ (pointsIn own (points n m speaks bytes own) (blocks n m) inbox k) (λ j a u.
+    points-read n own mine (blocks n m) inbox k j a u (accepted n m own r .range .columns-high)
+    ∙ ap readPoint (heard-same own mine (blocks n m) inbox (points n m speaks bytes own) j k (f k))))
+
+module _ (n m own : ℕ) (speaks : Bool) (bytes inbox : List ℕ) (r : ℕ) (e : r ≡ roundRefusal n m own (length inbox)) where
+  pub kept-refused : (r ≡ 0 → ⊥) → record { refusal = r; points = replicate 32 blank } ≡ kept n m own speaks bytes inbox
+  unfolding kept
+  kept-refused h = rw (← e, ne-eqb r 0 h) refl
+
+  pub kept-done : (all : List ℕ) → r ≡ 0 → all ≡ keptPoints n m own speaks bytes inbox → record { refusal = 0; points = all } ≡ kept n m own speaks bytes inbox
+  unfolding kept
+  kept-done all z f = rw (← e, z, f) refl

@@ -3,5 +3,6 @@
 pub mod Dissemination
 pub mod Laws
 pub mod Kept
+pub mod Decoding
 pub mod Run
 pub mod Spread

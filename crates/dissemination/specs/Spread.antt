@@ -36,9 +36,6 @@ use Rattle.dissemination.specs.Run.{Run, inputs, Consistent}
 
 module _ (n m : ℕ) (r : List ℕ) (received : ℕ → ℕ → ℕ) (range : InRange n m) (held : Held m r)
     (blocks-are : (k : ℕ) → k < blocks n m → blockOf n (received k) ≡ some (block (degree n) r k)) where
-  d : ℕ
-  d = degree n
-
   byte-is : (k c : ℕ) → k < blocks n m → c < degree n + 1 → coefficient (blockOf n (received k)) c ≡ getD r (k * (degree n + 1) + c) 0
   unfolding coefficient
   byte-is k c h l = rw (blocks-are k h) (getD-part r (k * (degree n + 1)) (degree n + 1) c l)

@@ -81,23 +81,15 @@ pub length-laid : (w : ℕ) (message : List ℕ) → length (laid w message) ≡
 unfolding laid
 length-laid w message = length-listOf (said message) w
 
-laid-is : (w : ℕ) (message : List ℕ) → laid w message ≡ listOf (said message) w
-unfolding laid
-laid-is w message = refl
-
-pub laid-laid : (w v : ℕ) (message : List ℕ) → length message ≤ v → laid w (laid v message) ≡ laid w message
-unfolding laid
-laid-laid w v message h = listOf-same (said (laid v message)) (said message) w (λ k _. said-laid v message k h)
-
 pub written-fits : (w : ℕ) (message part : List ℕ) → w ≤ length part → written w message part ≡ listOf (said message) w ++ drop w part
 unfolding written laid
 written-fits w message part h = simp (le-leb w (length part) h)
 
--- from a message that lies in more places than it needs
-pub written-laid : (w v : ℕ) (message part : List ℕ) → w ≤ length part → length message ≤ v
-    → written w (laid v message) part ≡ listOf (said message) w ++ drop w part
-unfolding written
-written-laid w v message part h l = rw (le-leb w (length part) h, laid-laid w v message l, laid-is w message)
+-- a message told otherwise
+pub written-as : (w : ℕ) (message other part : List ℕ) → w ≤ length part → ((k : ℕ) → said message k ≡ said other k)
+    → written w message part ≡ listOf (said other) w ++ drop w part
+written-as w message other part h e =
+    written-fits w message part h ∙ ap (λ (front : List ℕ). front ++ drop w part) (listOf-same (said message) (said other) w (λ k _. e k))
 
 pub not-written : (w : ℕ) (message part : List ℕ) → length part < w → written w message part ≡ part
 unfolding written
@@ -147,10 +139,10 @@ module _ (own : ℕ) (mine : List ℕ) (w : ℕ) (inbox : List ℕ) where
   unfolding heard
   heard-other j k h = simp (ne-eqb j own h)
 
-  -- what the column would send itself may lie in more places than it needs
-  pub heard-laid : (v j k : ℕ) → length mine ≤ v → heard own (laid v mine) w inbox j k ≡ heard own mine w inbox j k
+  -- what the column would send itself, told otherwise
+  pub heard-same : (other : List ℕ) (j k : ℕ) → said mine k ≡ said other k → heard own mine w inbox j k ≡ heard own other w inbox j k
   unfolding heard
-  heard-laid v j k h = rw (said-laid v mine k h)
+  heard-same other j k e = rw e
 
   -- column j's of the values from all columns
   pub from-heard : (n k j : ℕ) → 1 ≤ j → j ≤ n → n ≤ 31 → from (heardOfAll n own mine w inbox k) j ≡ heard own mine w inbox j k

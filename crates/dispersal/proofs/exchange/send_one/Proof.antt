@@ -1,12 +1,12 @@
 -- `exchange/send_one` meets its contract.
+use Rattle.messages.specs.Messages.{said}
 use mathlib.Core.Path.{_≡_, refl, sym, ap, _∙_}
 use Prim.Native.Nat.{ℕ, _+_, _*_, _≤_}
 use mathlib.Core.List.{List}
 use native.Mathlib.Omega.{arith}
 use lib.ListN.{length}
 use Rattle.sizes.specs.Laws.{blocks-le}
-use Rattle.messages.specs.Messages.{written, laid}
-use Rattle.messages.specs.Laws.{written-laid}
+use Rattle.messages.specs.Laws.{said-laid, written-as}
 use Rattle.dispersal.specs.Dispersal.{exchange}
 use Rattle.dispersal.specs.Laws.{few-blocks, joined-exchange, length-exchange}
 use borrow.Author.Needs.{needs}
@@ -44,8 +44,9 @@ returns : tie.Need-returns
 returns c = let a = c .before .before .before .before .before .before .before .before .before .args in
     let small = few-blocks (a .n) (a .m) (a .own) (c .before .before .before .before .before .before .before .before .before .pre .0) in
     let e = c .before .before .before .before .before .message .ensures ∙ joined-exchange (a .n) (a .m) (a .bytes) small _ (a .own) (a .j + 1) _ _ (c .before .before .before .before .before .before .before .blocks2 .ensures) (c .before .before .before .before .before .before .before .before .before .pre .1) (c .before .before .before .before .before .before .values .ensures) in
-    c .before .before .write .ensures .1 ∙ ap (λ (l : List ℕ). written (2 * c .before .before .before .before .before .before .before .blocks2 .result) l (a .part .now)) e
-    ∙ rw (c .before .before .before .before .before .before .before .blocks2 .ensures) (written-laid _ 64 (exchange (a .n) (a .m) (a .own) (a .bytes) (a .j + 1)) (a .part .now) (c .before .before .before .before .before .before .before .before .before .pre .2) (omega (arith, small, length-exchange (a .n) (a .m) (a .own) (a .bytes) (a .j + 1))))
+    let sent = exchange (a .n) (a .m) (a .own) (a .bytes) (a .j + 1) in
+    c .before .before .write .ensures .1 ∙ rw (c .before .before .before .before .before .before .before .blocks2 .ensures) (written-as _ _ sent (a .part .now) (c .before .before .before .before .before .before .before .before .before .pre .2) (λ k.
+    ap (λ (l : List ℕ). said l k) e ∙ said-laid 64 sent k (omega (arith, small, length-exchange (a .n) (a .m) (a .own) (a .bytes) (a .j + 1)))))
 
 pub send-one-spec : {M : Type 1} → statement M
 send-one-spec =

@@ -1,0 +1,70 @@
+-- `points/kept_points` meets its contract.
+use mathlib.Core.Path.{_≡_, ap, _∙_}
+use mathlib.Core.List.{List}
+use Prim.Native.Nat.{ℕ, _-_}
+use native.Mathlib.Omega.{arith}
+use Rattle.lists.specs.Loops.{Filled, filled-none, filled-more, filled-done}
+use Rattle.messages.specs.Messages.{said}
+use Rattle.dissemination.specs.Dissemination.{keptAt, keptPoints}
+use Rattle.dissemination.specs.Laws.{few-blocks, said-own}
+use Rattle.dissemination.proofs.points.kept_points.Statement.{statement}
+use Rattle.dissemination.proofs.points.kept_points.Tie as tie
+
+abbrev Inv-loop : tie.InvT-loop
+Inv-loop n m own speaks bytes inbox mine all₀ k₀ all k = Filled (keptAt n m own speaks bytes inbox) 32 all₀ all k
+
+abbrev μ-loop : tie.MeasureT-loop
+μ-loop n m own speaks bytes inbox mine all₀ k₀ all k = 32 - k
+
+values-requires : tie.Need-values-requires Inv-loop μ-loop
+values-requires c κs = tt
+
+silenced-unless-requires : tie.Need-silenced-unless-requires Inv-loop μ-loop
+silenced-unless-requires c κs = tt
+
+loop-holds : tie.Need-loop-holds Inv-loop μ-loop
+loop-holds c = filled-none _ _ _ (omega arith)
+
+cast-at : tie.Need-cast-at Inv-loop μ-loop
+cast-at c = omega arith
+
+kept-at-requires : tie.Need-kept-at-requires Inv-loop μ-loop
+kept-at-requires c κs = let a = c .before .before .before .before .before .args in
+    (c .before .before .before .before .before .pre, λ i. ap (λ (l : List ℕ). said l i) (c .before .before .silenced-unless .ensures) ∙ said-own (a .n) (a .m) (a .speaks) (a .bytes) (a .own) (few-blocks (a .n) (a .m) (a .own) (c .before .before .before .before .before .pre)) _ (c .before .before .before .values .ensures) i)
+
+mul-all : tie.Need-mul-all Inv-loop μ-loop
+mul-all c = omega arith
+
+array-write-all : tie.Need-array-write-all Inv-loop μ-loop
+array-write-all c = omega arith
+
+add-k : tie.Need-add-k Inv-loop μ-loop
+add-k c = omega arith
+
+loop-less : tie.Need-loop-less Inv-loop μ-loop
+loop-less c = omega arith
+
+loop-again : tie.Need-loop-again Inv-loop μ-loop
+loop-again c = filled-more _ _ _ _ _ _ (c .before .before .loop .inv) (omega arith) (c .kept-at .ensures)
+
+returns : tie.Need-returns Inv-loop μ-loop
+unfolding keptPoints
+returns c = filled-done _ _ _ _ _ (c .before .loop .inv) (omega arith) (omega arith)
+
+pub kept-points-spec : {M : Type 1} → statement M
+kept-points-spec =
+    tie.close
+    (tie.spec
+    Inv-loop
+    μ-loop
+    values-requires
+    silenced-unless-requires
+    loop-holds
+    cast-at
+    kept-at-requires
+    mul-all
+    array-write-all
+    add-k
+    loop-less
+    loop-again
+    returns)

@@ -6,17 +6,18 @@ use Prim.Native.Nat.{ℕ, zero, suc, _+_, _-_, _*_, _≤_, _<_}
 use native.Mathlib.Omega.{arith}
 use borrow.Author.Tests.{lt-ltb, ne-eqb}
 use lib.Dec.{eqb}
-use lib.ListN.{length, getD, replicate}
+use lib.ListN.{length, getD, take, replicate}
+use lib.Seq.{ext-getD, getD-take, length-take-le}
 use Rattle.lists.specs.Lists.{listOf}
-use Rattle.lists.specs.Entries.{getD-listOf, listOf-same}
+use Rattle.lists.specs.Entries.{length-listOf, getD-listOf}
 use Rattle.field.specs.Field.{blank}
 use Rattle.sizes.specs.Sizes.{blocks, refusal}
-use Rattle.sizes.specs.Laws.{accepted, blocks-le}
+use Rattle.sizes.specs.Laws.{accepted, blocks-le, columns-accepted}
 use Rattle.messages.specs.Messages.{readPoint, said, from, laid, heard, heardOfAll}
 use Rattle.messages.specs.Laws.{said-laid, from-place, from-heard, heard-same, accepted as messages-accepted}
 use Rattle.codeword.specs.Codeword.{values}
 use Rattle.codeword.specs.Apart.{length-values}
-use Rattle.dissemination.specs.Dissemination.{spoken, pointsIn, points, keptPoint, keptAt, keptPoints, roundRefusal, kept}
+use Rattle.dissemination.specs.Dissemination.{spoken, pointsIn, pointAt, points, keptPoint, keptAt, keptPoints, roundRefusal, kept}
 use Rattle.dissemination.specs.Kept.{kept-same}
 use Rattle.dissemination.specs.declared.points.KeptPoints.{KeptPoints}
 
@@ -54,6 +55,25 @@ unfolding from said readAt pointsIn
 points-read n own mine w inbox k j l u h =
     getD-listOf (readAt (heardOfAll n own mine w inbox k)) 31 (j - 1) blank (omega arith) ∙ ap readPoint (from-heard own mine w inbox n k j l u h)
 
+-- the first n of them, as the decoder gets them
+pub points-taken : (n own : ℕ) (mine : List ℕ) (w : ℕ) (inbox : List ℕ) (k : ℕ) → n ≤ 31
+    → take n (listOf (readAt (heardOfAll n own mine w inbox k)) 31) ≡ listOf (pointAt (pointsIn own mine w inbox k)) n
+unfolding said pointAt
+points-taken n own mine w inbox k h =
+    ext-getD blank (take n read) (listOf (pointAt came) n) (long ∙ sym (length-listOf (pointAt came) n)) (λ i l.
+    let l′ : i < n = omega (arith, long) in
+    getD-take n read i blank l′ ∙ sym (from-place read i) ∙ points-read n own mine w inbox k (i + 1) (omega arith) (omega arith) h
+    ∙ sym (getD-listOf (pointAt came) n i blank l′))
+  where
+    read : List ℕ
+    read = listOf (readAt (heardOfAll n own mine w inbox k)) 31
+
+    came : ℕ → ℕ
+    came = pointsIn own mine w inbox k
+
+    long : length (take n read) ≡ n
+    long = length-take-le n read (omega (arith, length-listOf (readAt (heardOfAll n own mine w inbox k)) 31))
+
 -- THE CALLS OF THE FIRST ROUND
 
 pub round-accepted : (n m own len : ℕ) → roundRefusal n m own len ≡ 0 → (refusal n m own ≡ 0) × (len ≡ n * blocks n m)
@@ -62,6 +82,10 @@ round-accepted n m own len e = messages-accepted (refusal n m own) n (blocks n m
 
 pub few-blocks : (n m own : ℕ) → refusal n m own ≡ 0 → blocks n m ≤ 32
 few-blocks n m own e = omega (arith, blocks-le n m, accepted n m own e .range .bytes-high)
+
+-- the n of an accepted wall is one
+pub columns-too : (n m own : ℕ) → refusal n m own ≡ 0 → refusal n 1 1 ≡ 0
+columns-too n m own e = let a = accepted n m own e in columns-accepted n (a .range .columns-low) (a .range .columns-high)
 
 -- the column's own message, in 32 places
 pub said-own : (n m : ℕ) (speaks : Bool) (bytes : List ℕ) (x : ℕ) → blocks n m ≤ 32 → (all : List ℕ) → all ≡ laid 32 (values n m bytes x)

@@ -13,7 +13,7 @@ ghost use Rattle.sizes.specs.Sizes.{blocks, degree, refusal as refusalOfSizes};
 ghost use Rattle.messages.specs.Messages.{toAll, unlessRefused};
 ghost use Rattle.decoder.specs.Decoder.{decoded, four};
 ghost use Rattle.dissemination.specs.Dissemination.{spoken, pointsIn, pointAt, roundRefusal, disseminated};
-ghost use Rattle.dissemination.specs.Decoding.{isByteAt, byteIn};
+ghost use Rattle.dissemination.specs.Decoding.{isByteAt, byteIn, Decodes};
 
 // What listening to the kept points answers: its refusal, 0 for none; whether there is a record; and its bytes, zeros past m and zeros
 // where there is none.
@@ -94,4 +94,37 @@ fn are_bytes(m: u8, from: u16, size: u16, c: Coefficients) -> bool
         }
     }
     true
+}
+
+// Decodes every block; nothing is found as soon as one has no polynomial, or a coefficient that may not stand in a record.
+fn decode_blocks(n: u8, m: u8, own: u8, mine: [u16; 32], inbox: &[u16]) -> Blocks
+    requires { ⌜ refusalOfSizes n m own ≡ 0 ⌝ }
+    ensures { λ r. ⌜ Decodes n m (pointsIn own mine (blocks n m) (now (inbox .entry))) (r .found) (r .coefficients) ⌝ }
+{
+    let b = sizes::blocks(n, m) as u16;
+    let size = sizes::degree(n) as u16 + 1;
+    let mut coefficients = [0u16; 128];
+    for k in 0..b {
+        let Decoded::Polynomial(c) = block(n, own, mine, b, inbox, k) else {
+            return Blocks {
+                found: false,
+                coefficients: [0u16; 128],
+            };
+        };
+        if !are_bytes(m, k * size, size, c) {
+            return Blocks {
+                found: false,
+                coefficients: [0u16; 128],
+            };
+        }
+        let at = 4 * (k as usize);
+        coefficients[at] = c.c0;
+        coefficients[at + 1] = c.c1;
+        coefficients[at + 2] = c.c2;
+        coefficients[at + 3] = c.c3;
+    }
+    Blocks {
+        found: true,
+        coefficients: coefficients,
+    }
 }

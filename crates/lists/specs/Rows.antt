@@ -1,5 +1,5 @@
 -- Laws of rows: column j's row is the part of w values that starts at place (j - 1) * w.
-use mathlib.Core.Path.{_≡_, refl, ap, sym, _∙_}
+use mathlib.Core.Path.{_≡_, refl, ap, ap₂, sym, _∙_}
 use mathlib.Core.List.{List, _++_, append-assoc, append-nil}
 use mathlib.Core.Logic.{⊎-elim}
 use Prim.Native.Nat.{ℕ, zero, suc, _+_, _-_, _*_, _≤_, _<_}
@@ -9,7 +9,7 @@ use native.Mathlib.Omega.{arith}
 use lib.ListN.{length, take, drop, getD, length-append, drop-of-length-le, List·getD-append}
 use lib.Seq.{take-at, drop-at, drop-drop, getD-append-add}
 use Rattle.lists.specs.Lists.{listOf, rowsOf, inRow}
-use Rattle.lists.specs.Entries.{length-listOf, getD-listOf}
+use Rattle.lists.specs.Entries.{length-listOf, getD-listOf, listOf-same}
 
 -- row j ends before row n + 1 begins
 pub row-fits : (w j n : ℕ) → j < n → j * w + w ≤ n * w
@@ -22,6 +22,11 @@ module _ {ℓ} {A : Type ℓ} where
   unfolding rowsOf
   length-rowsOf f w zero = sym (zero-mul w)
   length-rowsOf f w (suc n) = simp (length-append, length-listOf, length-rowsOf f w n, suc-mul)
+
+  pub rowsOf-same : (f g : ℕ → ℕ → A) (w n : ℕ) → ((j k : ℕ) → f j k ≡ g j k) → rowsOf f w n ≡ rowsOf g w n
+  unfolding rowsOf
+  rowsOf-same f g w zero h = refl
+  rowsOf-same f g w (suc n) h = ap₂ {C = List A} (λ rows row. rows ++ row) (rowsOf-same f g w n h) (listOf-same (f (suc n)) (g (suc n)) w (λ k _. h (suc n) k))
 
   at-place : (f : ℕ → ℕ → A) (w n j k : ℕ) (z : A) → j < n → k < w → getD (rowsOf f w n) (j * w + k) z ≡ f (suc j) k
   unfolding rowsOf

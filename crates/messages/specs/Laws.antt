@@ -12,8 +12,10 @@ use lib.ListN.{length, drop, getD, List·getD-eq-default}
 use Rattle.lists.specs.Lists.{listOf, inRow}
 use Rattle.lists.specs.Entries.{length-listOf, getD-listOf, listOf-same}
 use Rattle.lists.specs.Tests.{passes}
+use Rattle.lists.specs.Rows.{rowsOf-same}
 use Rattle.field.specs.Field.{blank}
-use Rattle.messages.specs.Messages.{readPoint, readReport, readBit, said, from, laid, written, refusal, unlessRefused, heard, heardFrom, heardOfAll}
+use Rattle.sizes.specs.Sizes.{refusal as refusalOfSizes}
+use Rattle.messages.specs.Messages.{readPoint, readReport, readBit, said, from, toAll, laid, written, refusal, unlessRefused, toAllRefusal, heard, heardFrom, heardOfAll}
 
 -- WHAT A VALUE SAYS: a legal value is itself
 
@@ -95,6 +97,10 @@ pub not-written : (w : ℕ) (message part : List ℕ) → length part < w → wr
 unfolding written
 not-written w message part h = simp (lt-leb w (length part) h)
 
+pub toAll-same : (n w : ℕ) (message other : List ℕ) → ((k : ℕ) → said message k ≡ said other k) → toAll n w message ≡ toAll n w other
+unfolding toAll
+toAll-same n w message other h = rowsOf-same (λ j. said message) (λ j. said other) w n (λ j k. h k)
+
 -- REFUSALS
 
 module _ (why n w len : ℕ) where
@@ -109,6 +115,10 @@ module _ (why n w len : ℕ) where
   pub not-refused : why ≡ 0 → len ≡ n * w → refusal why n w len ≡ 0
   unfolding refusal
   not-refused e h = simp (eq-eqb why 0 e, eq-eqb len (n * w) h)
+
+pub to-all-accepted : (n w len : ℕ) → refusalOfSizes n 1 1 ≡ 0 → len ≡ n * w → toAllRefusal n w len ≡ 0
+unfolding toAllRefusal
+to-all-accepted n w len e h = not-refused (refusalOfSizes n 1 1) n w len e h
 
 -- a call that is not refused: the slice is as long as it has to be
 pub accepted : (why n w len : ℕ) → refusal why n w len ≡ 0 → (why ≡ 0) × (len ≡ n * w)

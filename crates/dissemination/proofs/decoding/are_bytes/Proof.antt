@@ -1,59 +1,52 @@
+-- `decoding/are_bytes` meets its contract.
+use mathlib.Core.Path.{ap, _∙_}
+use Prim.Native.Nat.{ℕ, _+_, _-_}
+use native.Mathlib.Omega.{arith}
+use Rattle.lists.specs.Loops.{Checked, checked-none, checked-more, checked-fails, checked-done}
+use Rattle.dissemination.specs.Decoding.{isByteAt, byteIn}
 use Rattle.dissemination.proofs.decoding.are_bytes.Statement.{statement}
 use Rattle.dissemination.proofs.decoding.are_bytes.Tie as tie
-use Rattle.dissemination.proofs.decoding.are_bytes.Reads as reads
-use Rattle.dissemination.proofs.decoding.are_bytes.Lts as lts
-use Rattle.dissemination.proofs.decoding.coefficient.Reads as coefficient-reads
-use Rattle.dissemination.proofs.decoding.is_byte.Reads as is-byte-reads
 
 abbrev Inv-loop : tie.InvT-loop
-Inv-loop m from size c i₀ i = ?
+Inv-loop m from size c i₀ i = Checked (byteIn m from c) size i
 
 abbrev μ-loop : tie.MeasureT-loop
-μ-loop m from size c i₀ i = ?
+μ-loop m from size c i₀ i = size - i
 
--- src/decoding.rt:91:5
 loop-holds : tie.Need-loop-holds Inv-loop μ-loop
-loop-holds c = ?
+loop-holds c = checked-none _ _
 
--- src/decoding.rt:92:40
 cast-is-byte : tie.Need-cast-is-byte Inv-loop μ-loop
-cast-is-byte c = ?
+cast-is-byte c = omega arith
 
--- src/decoding.rt:92:24
 add-is-byte : tie.Need-add-is-byte Inv-loop μ-loop
-add-is-byte c = ?
+add-is-byte c = omega arith
 
--- src/decoding.rt:92:67
 cast-coefficient : tie.Need-cast-coefficient Inv-loop μ-loop
-cast-coefficient c = ?
+cast-coefficient c = omega arith
 
--- src/decoding.rt:92:52
 coefficient-requires : tie.Need-coefficient-requires Inv-loop μ-loop
-coefficient-requires c κs = ?
+coefficient-requires c κs = tt
 
--- src/decoding.rt:92:13
 is-byte-requires : tie.Need-is-byte-requires Inv-loop μ-loop
-is-byte-requires c κs = ?
+is-byte-requires c κs = tt
 
--- src/decoding.rt:93:13
 returns : tie.Need-returns Inv-loop μ-loop
-returns c = ?
+unfolding byteIn
+returns c = checked-fails _ _ _ _ (omega arith) (c .before .is-byte .ensures ∙ ap (λ (v : ℕ). isByteAt (c .before .before .before .before .before .args .m) (c .before .before .before .before .before .args .from + c .before .before .before .before .loop .i) v) (c .before .before .coefficient .ensures)) (c .if1 .taken)
 
--- src/decoding.rt:91:9
 add-i : tie.Need-add-i Inv-loop μ-loop
-add-i c = ?
+add-i c = omega arith
 
--- src/decoding.rt:91:5
 loop-less : tie.Need-loop-less Inv-loop μ-loop
-loop-less c = ?
+loop-less c = omega arith
 
--- src/decoding.rt:91:5
 loop-again : tie.Need-loop-again Inv-loop μ-loop
-loop-again c = ?
+unfolding byteIn
+loop-again c = checked-more _ _ _ _ (c .before .before .before .before .loop .inv) (omega arith) (c .before .is-byte .ensures ∙ ap (λ (v : ℕ). isByteAt (c .before .before .before .before .before .args .m) (c .before .before .before .before .before .args .from + c .before .before .before .before .loop .i) v) (c .before .before .coefficient .ensures)) (c .if1 .left)
 
--- src/decoding.rt:88:1
 returns-2 : tie.Need-returns-2 Inv-loop μ-loop
-returns-2 c = ?
+returns-2 c = checked-done _ _ _ (c .before .loop .inv) (omega arith)
 
 pub are-bytes-spec : {M : Type 1} → statement M
 are-bytes-spec =

@@ -1,39 +1,42 @@
+-- `decoding/block` meets its contract.
+use mathlib.Core.Path.{sym}
+use lib.ListN.{length}
+use lib.Seq.{length-take-le}
+use Rattle.lists.specs.Entries.{length-listOf}
+use mathlib.Core.Path.{ap, _∙_}
+use mathlib.Core.List.{List}
+use Prim.Native.Nat.{ℕ}
+use native.Mathlib.Omega.{arith}
+use lib.ListN.{take}
+use Rattle.lists.specs.Lists.{listOf}
+use Rattle.decoder.specs.Decoder.{decoded}
+use Rattle.dissemination.specs.Laws.{readAt, points-taken}
 use borrow.Author.Needs.{needs}
 use Rattle.dissemination.proofs.decoding.block.Statement.{statement}
 use Rattle.dissemination.proofs.decoding.block.Tie as tie
-use Rattle.dissemination.proofs.decoding.block.Reads as reads
-use Rattle.dissemination.proofs.decoding.block.Lts as lts
-use Rattle.decoder.proofs.decode.Reads as decode-reads
-use Rattle.dissemination.proofs.read_points.Reads as read-points-reads
-use Rattle.messages.proofs.heard_of_all.Reads as heard-of-all-reads
 
--- src/decoding.rt:50:48
 slice-aggregate-heard-of-all : tie.Need-slice-aggregate-heard-of-all
 slice-aggregate-heard-of-all c = search needs
 
--- src/decoding.rt:50:9
 heard-of-all-requires : tie.Need-heard-of-all-requires
 heard-of-all-requires c κs = search needs
 
--- src/decoding.rt:51:18
 read-points-requires : tie.Need-read-points-requires
 read-points-requires c κs = search needs
 
--- src/decoding.rt:52:24
 array-share-prefix-points : tie.Need-array-share-prefix-points
 array-share-prefix-points c = search needs
 
--- src/decoding.rt:52:24
 slice-aggregate-decode : tie.Need-slice-aggregate-decode
-slice-aggregate-decode c = ?
+slice-aggregate-decode c = sym (length-take-le _ _ (omega (arith, c .before .before .before .before .before .pre, ap length (c .before .read-points .ensures), length-listOf (readAt (c .before .before .heard-of-all .result)) 31)))
 
--- src/decoding.rt:52:5
 decode-requires : tie.Need-decode-requires
 decode-requires c κs = search needs
 
--- src/decoding.rt:46:1
 returns : tie.Need-returns
-returns c = ?
+returns c = let a = c .before .before .before .before .before .before .args in
+    c .decode .ensures ∙ ap (λ (l : List ℕ). decoded (a .n) (take (a .n) l)) (c .before .before .read-points .ensures ∙ ap (λ (l : List ℕ). listOf (readAt l) 31) (c .before .before .before .heard-of-all .ensures))
+    ∙ ap (decoded (a .n)) (points-taken (a .n) (a .own) _ (a .w) (a .inbox .now) (a .k) (c .before .before .before .before .before .before .pre))
 
 pub block-spec : {M : Type 1} → statement M
 block-spec =

@@ -1,19 +1,21 @@
+-- `decoding/is_byte` meets its contract.
+use borrow.Author.Tests.{lt-ltb, le-ltb}
+use native.Mathlib.Omega.{arith}
+use Rattle.dissemination.specs.Decoding.{isByteAt}
 use Rattle.dissemination.proofs.decoding.is_byte.Statement.{statement}
 use Rattle.dissemination.proofs.decoding.is_byte.Tie as tie
-use Rattle.dissemination.proofs.decoding.is_byte.Reads as reads
-use Rattle.dissemination.proofs.decoding.is_byte.Lts as lts
 
--- src/decoding.rt:79:9
 returns : tie.Need-returns
-returns c = ?
+unfolding isByteAt
+returns c = simp (le-ltb (c .before .args .v) 256 (omega arith))
 
--- src/decoding.rt:82:9
 returns-2 : tie.Need-returns-2
-returns-2 c = ?
+unfolding isByteAt
+returns-2 c = simp (lt-ltb (c .before .before .args .v) 256 (omega arith), lt-ltb _ _ (c .if2 .taken))
 
--- src/decoding.rt:75:1
 returns-3 : tie.Need-returns-3
-returns-3 c = ?
+unfolding isByteAt
+returns-3 c = simp (lt-ltb (c .before .before .args .v) 256 (omega arith), le-ltb _ _ (c .if2 .left))
 
 pub is-byte-spec : {M : Type 1} → statement M
 is-byte-spec = tie.close (tie.spec returns returns-2 returns-3)

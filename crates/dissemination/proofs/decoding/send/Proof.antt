@@ -1,48 +1,52 @@
+-- `decoding/send` meets its contract.
+use Rattle.dissemination.specs.Dissemination.{spoken}
+use Rattle.sizes.specs.Sizes.{blocks}
+use Rattle.messages.specs.Messages.{unlessRefused, toAllRefusal}
+use lib.ListN.{length}
+use Rattle.dissemination.specs.Laws.{columns-too}
+use mathlib.Core.Path.{_≡_, sym, ap, _∙_}
+use mathlib.Core.List.{List}
+use Prim.Native.Nat.{ℕ, _*_}
+use native.Mathlib.Omega.{arith}
+use Rattle.sizes.specs.Laws.{blocks-le}
+use Rattle.messages.specs.Messages.{said, toAll}
+use Rattle.messages.specs.Laws.{if-refused, if-done, to-all-accepted, toAll-same}
+use Rattle.dissemination.specs.Laws.{round-accepted, said-silenced}
 use borrow.Author.Needs.{needs}
 use Rattle.dissemination.proofs.decoding.send.Statement.{statement}
 use Rattle.dissemination.proofs.decoding.send.Tie as tie
-use Rattle.dissemination.proofs.decoding.send.Reads as reads
-use Rattle.dissemination.proofs.decoding.send.Lts as lts
-use Rattle.dissemination.proofs.refusal.Reads as refusal-reads
-use Rattle.dissemination.proofs.silenced_unless.Reads as silenced-unless-reads
-use Rattle.messages.proofs.to_all.Reads as to-all-reads
-use Rattle.sizes.proofs.blocks.Reads as blocks-reads
 
--- src/decoding.rt:37:9
 refusal-requires : tie.Need-refusal-requires
 refusal-requires c κs = search needs
 
--- src/decoding.rt:39:9
 returns : tie.Need-returns
-returns c = ?
+returns c = (c .before .refusal .ensures, sym (if-refused _ _ _ (λ z. c .if1 .taken (c .before .refusal .ensures ∙ z))))
 
--- src/decoding.rt:41:19
 silenced-unless-requires : tie.Need-silenced-unless-requires
 silenced-unless-requires c κs = search needs
 
--- src/decoding.rt:42:25
 blocks-requires : tie.Need-blocks-requires
 blocks-requires c κs = search needs
 
--- src/decoding.rt:42:25
 cast-to-all : tie.Need-cast-to-all
-cast-to-all c = ?
+cast-to-all c = record { fits = omega (arith, c .blocks2 .ensures, blocks-le (c .before .before .before .before .before .args .n) (c .before .before .before .before .before .args .m)) }
 
--- src/decoding.rt:42:53
 slice-aggregate-to-all : tie.Need-slice-aggregate-to-all
 slice-aggregate-to-all c = search needs
 
--- src/decoding.rt:42:5
 to-all-requires : tie.Need-to-all-requires
 to-all-requires c κs = search needs
 
--- src/decoding.rt:33:1
 same-length : tie.Need-same-length
 same-length c = search needs
 
--- src/decoding.rt:33:1
 returns-2 : tie.Need-returns-2
-returns-2 c = ?
+returns-2 c = let a = c .before .before .before .before .before .before .before .before .before .before .args in
+    let e = sym (c .before .before .before .before .before .before .before .if1 .left) ∙ c .before .before .before .before .before .before .before .before .refusal .ensures in
+    let h = round-accepted (a .n) (a .m) 1 (length (a .out .now)) (sym e) in
+    let ok : toAllRefusal (a .n) (blocks (a .n) (a .m)) (length (a .out .now)) ≡ 0 = to-all-accepted (a .n) (blocks (a .n) (a .m)) (length (a .out .now)) (columns-too (a .n) (a .m) 1 (h .0)) (h .1) in
+    let told = rw (c .before .before .before .before .before .blocks2 .ensures) at (c .before .before .to-all .ensures) in
+    (told .0 ∙ ok ∙ e, told .1 ∙ if-done _ _ _ ok ∙ toAll-same (a .n) (blocks (a .n) (a .m)) _ (spoken (a .speaks) (a .kept)) (λ k. ap (λ (l : List ℕ). said l k) (c .before .before .before .before .before .before .silenced-unless .ensures) ∙ said-silenced (a .speaks) (a .kept) k) ∙ sym (if-done _ _ _ (sym e)))
 
 pub send-spec : {M : Type 1} → statement M
 send-spec =

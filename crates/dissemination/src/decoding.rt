@@ -13,7 +13,7 @@ ghost use Rattle.sizes.specs.Sizes.{blocks, degree, refusal as refusalOfSizes};
 ghost use Rattle.messages.specs.Messages.{toAll, unlessRefused};
 ghost use Rattle.decoder.specs.Decoder.{decoded, four};
 ghost use Rattle.dissemination.specs.Dissemination.{spoken, pointsIn, pointAt, roundRefusal, disseminated};
-ghost use Rattle.dissemination.specs.Decoding.{isByteAt, byteIn, Decodes};
+ghost use Rattle.dissemination.specs.Decoding.{isByteAt, byteIn, Decodes, storedByte};
 
 // What listening to the kept points answers: its refusal, 0 for none; whether there is a record; and its bytes, zeros past m and zeros
 // where there is none.
@@ -126,5 +126,65 @@ fn decode_blocks(n: u8, m: u8, own: u8, mine: [u16; 32], inbox: &[u16]) -> Block
     Blocks {
         found: true,
         coefficients: coefficients,
+    }
+}
+
+// Byte p of a record of m bytes, cut into blocks of `size` bytes.
+fn byte_at(size: u16, m: u8, coefficients: &[u16], p: u8) -> u8
+    requires { ⌜ 1 ≤ size ⌝ }
+    ensures { λ r. ⌜ r ≡ storedByte size m (now (coefficients .entry)) p ⌝ }
+{
+    if m <= p {
+        return 0;
+    }
+    let at = p as u16;
+    let v = messages::value(
+        coefficients,
+        4 * ((at / size) as usize) + (at % size) as usize,
+    );
+    (v % 256) as u8
+}
+
+// The bytes of the record.
+fn joined(size: u16, m: u8, coefficients: &[u16]) -> [u8; 32]
+    requires { ⌜ 1 ≤ size ⌝ }
+    ensures { λ r. ⌜ r ≡ listOf (storedByte size m (now (coefficients .entry))) 32 ⌝ }
+{
+    let mut bytes = [0u8; 32];
+    for p in 0..32u8 {
+        let at = p as usize;
+        bytes[at] = byte_at(size, m, coefficients, p);
+    }
+    bytes
+}
+
+// Listens to the kept points: the record whose blocks they decode to. There is none if a block has none, if a coefficient is 256 or if a
+// fill byte is not 0.
+pub fn decode(n: u8, m: u8, own: u8, speaks: bool, kept: [u16; 32], inbox: &[u16]) -> Disseminated
+    ensures { λ r. ⌜ r ≡ disseminated n m own speaks kept (now (inbox .entry)) ⌝ }
+{
+    let why = refusal(n, m, own, inbox.len());
+    if why != 0 {
+        return Disseminated {
+            refusal: why,
+            found: false,
+            bytes: [0u8; 32],
+        };
+    }
+    let mine = silenced_unless(speaks, kept);
+    let blocks = decode_blocks(n, m, own, mine, inbox);
+    if !blocks.found {
+        return Disseminated {
+            refusal: 0,
+            found: false,
+            bytes: [0u8; 32],
+        };
+    }
+    let coefficients = blocks.coefficients;
+    let bytes = joined(sizes::degree(n) as u16 + 1, m, &coefficients);
+    Disseminated {
+        refusal: 0,
+        found: true,
+        bytes: bytes,
     }
 }

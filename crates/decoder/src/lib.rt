@@ -172,9 +172,9 @@ fn at_place(points: &[u16], x: u16) -> u16
     ensures { λ r. ⌜ r ≡ at (now (points .entry)) x ⌝ }
 {
     if x == 0 {
-        return locator::point_at(points, 0);
+        return messages::value(points, 0);
     }
-    locator::point_at(points, (x - 1) as usize)
+    messages::value(points, (x - 1) as usize)
 }
 
 // The points at four places.

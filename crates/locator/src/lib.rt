@@ -48,16 +48,6 @@ fn products(a: u16, b: u16, c: u16, d: u16) -> u16
     )
 }
 
-// The point at index i; blank past the end.
-pub fn point_at(points: &[u16], i: usize) -> u16
-    ensures { λ r. ⌜ r ≡ pointAt (now (points .entry)) i ⌝ }
-{
-    if i < points.len() {
-        return points[i];
-    }
-    Field::BLANK
-}
-
 // A number of the first pair at the start, e = 0 and q = 1.
 fn first_at(i: usize) -> u16
     ensures { λ r. ⌜ r ≡ firstAt i ⌝ }
@@ -85,7 +75,7 @@ fn second_at(points: &[u16], i: usize) -> u16
     if i < 32 {
         return 1;
     }
-    let negated = Field::subtract(Field(0), Field(point_at(points, i - 32)));
+    let negated = Field::subtract(Field(0), Field(messages::value(points, i - 32)));
     negated.0
 }
 
@@ -191,7 +181,13 @@ pub fn locate(weight: u8, points: &[u16]) -> [u16; 64]
         second: weight as u16,
     };
     for j in 0..32 {
-        let next = turn(&mut first, &mut second, weights, point_at(points, j), j);
+        let next = turn(
+            &mut first,
+            &mut second,
+            weights,
+            messages::value(points, j),
+            j,
+        );
         weights = next;
     }
     if weights.first <= weights.second {

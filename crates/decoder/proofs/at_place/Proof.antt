@@ -1,28 +1,31 @@
 -- `at_place` meets its contract.
 use mathlib.Core.Path.{_∙_}
 use borrow.Author.Needs.{needs}
+use Rattle.messages.specs.Messages.{said}
 use Rattle.decoder.proofs.at_place.Statement.{statement}
 use Rattle.decoder.proofs.at_place.Tie as tie
 
-point-at-requires : tie.Need-point-at-requires
-point-at-requires c κs = search needs
+value-requires : tie.Need-value-requires
+value-requires c κs = search needs
 
 returns : tie.Need-returns
-returns c = c .point-at .ensures ∙ rw (c .before .if1 .taken)
+unfolding said
+returns c = c .value .ensures ∙ rw (c .before .if1 .taken)
 
-sub-point-at : tie.Need-sub-point-at
-sub-point-at c = search needs
+sub-value : tie.Need-sub-value
+sub-value c = search needs
 
-cast-point-at : tie.Need-cast-point-at
-cast-point-at c = search needs
+cast-value : tie.Need-cast-value
+cast-value c = search needs
 
-point-at-requires-2 : tie.Need-point-at-requires-2
-point-at-requires-2 c κs = search needs
+value-requires-2 : tie.Need-value-requires-2
+value-requires-2 c κs = search needs
 
 returns-2 : tie.Need-returns-2
-returns-2 c = search needs
+unfolding said
+returns-2 c = c .value2 .ensures
 
 pub at-place-spec : {M : Type 1} → statement M
 at-place-spec =
     tie.close
-    (tie.spec point-at-requires returns sub-point-at cast-point-at point-at-requires-2 returns-2)
+    (tie.spec value-requires returns sub-value cast-value value-requires-2 returns-2)

@@ -3,6 +3,7 @@ use mathlib.Core.Path.{sym, _∙_}
 use Prim.Native.Nat.{_-_}
 use native.Mathlib.Omega.{arith}
 use borrow.Author.Tests.{le-leb, lt-leb}
+use Rattle.messages.specs.Messages.{said}
 use Rattle.locator.specs.Held.{Running, running-none, running-more, running-held, running-done}
 use Rattle.locator.proofs.locate.Statement.{statement}
 use Rattle.locator.proofs.locate.Tie as tie
@@ -22,8 +23,8 @@ start-second-requires c κs = tt
 loop-holds : tie.Need-loop-holds Inv-loop μ-loop
 loop-holds c = running-none _ _ _ _ (c .before .start-first .ensures) (c .start-second .ensures)
 
-point-at-requires : tie.Need-point-at-requires Inv-loop μ-loop
-point-at-requires c κs = tt
+value-requires : tie.Need-value-requires Inv-loop μ-loop
+value-requires c κs = tt
 
 turn-requires : tie.Need-turn-requires Inv-loop μ-loop
 turn-requires c κs =
@@ -38,7 +39,8 @@ loop-less : tie.Need-loop-less Inv-loop μ-loop
 loop-less c = omega arith
 
 loop-again : tie.Need-loop-again Inv-loop μ-loop
-loop-again c = running-more _ _ _ _ _ _ (c .before .before .before .before .before .loop .inv) _ _ _ _ (omega arith) (c .before .point-at .ensures) (c .turn .ensures)
+unfolding said
+loop-again c = running-more _ _ _ _ _ _ (c .before .before .before .before .before .loop .inv) _ _ _ _ (omega arith) (c .before .value .ensures) (c .turn .ensures)
 
 returns : tie.Need-returns Inv-loop μ-loop
 returns c = sym (running-done _ _ _ _ _ _ (c .before .before .before .loop .inv) (omega arith) ∙ simp (le-leb _ _ (c .if1 .taken)))
@@ -55,7 +57,7 @@ locate-spec =
     start-first-requires
     start-second-requires
     loop-holds
-    point-at-requires
+    value-requires
     turn-requires
     add-j
     loop-less

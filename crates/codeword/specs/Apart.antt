@@ -1,23 +1,22 @@
 -- Two different records, all their blocks at once, meet at no more than d of n points.
-use mathlib.Core.Path.{_≡_, refl, sym, ap, _∙_}
-use mathlib.Core.Bool.{Bool}
+use mathlib.Core.Path.{_≡_, sym, ap, _∙_}
 use mathlib.Core.List.{List}
-use Prim.Native.Nat.{ℕ, suc, _+_, _-_, _*_, _/_, _%_, _≤_, _<_}
+use Prim.Native.Nat.{ℕ, suc, _+_, _*_, _/_, _%_, _≤_, _<_}
 use native.Mathlib.Nat.{mod-lt, div-add-mod', div-lt-iff-lt-mul}
 use native.Mathlib.Decide.{decLe, decLt}
 use native.Mathlib.Omega.{arith}
-use lib.Dec.{T, eqb, eqb→eq, eqb-refl}
+use lib.Dec.{T, eqb→eq, eqb-refl}
 use lib.ListN.{length, getD, List·getD-eq-default}
 use lib.Seq.{ext-getD}
-use Rattle.lists.specs.Lists.{count, all, Below, listOf}
+use Rattle.lists.specs.Lists.{count, all, Below}
 use Rattle.lists.specs.Tests.{eq→eqb}
 use Rattle.lists.specs.Entries.{all-each, each-all, length-listOf, getD-listOf}
 use Rattle.lists.specs.Count.{mono}
-use Rattle.block.specs.Block.{part, block, value, meet}
+use Rattle.block.specs.Block.{block, value, meet}
 use Rattle.block.specs.Value.{value-lt, getD-part, length-part, below-part}
 use Rattle.block.specs.Apart.{unique}
 use Rattle.field.specs.Field.{blank}
-use Rattle.sizes.specs.Sizes.{faults, degree, blocks}
+use Rattle.sizes.specs.Sizes.{degree, blocks}
 use Rattle.sizes.specs.Laws.{InRange, sized}
 use Rattle.messages.specs.Messages.{said}
 use Rattle.codeword.specs.Codeword.{Held, point, values, meetIn, meets}

@@ -1,7 +1,6 @@
 // A record as a codeword: its values at a point, one for each block.
 use field::Field;
 ghost use mathlib.Core.Path.{_≡_};
-ghost use mathlib.Core.Bool.{cond};
 ghost use Rattle.messages.specs.Messages.{said, laid};
 ghost use Rattle.codeword.specs.Codeword.{point as pointOf, values as valuesOf};
 

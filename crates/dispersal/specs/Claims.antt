@@ -1,25 +1,22 @@
 -- Claims 3.4, 3.5 and 3.6 of document 002, from what sound columns do alone.
-use mathlib.Core.Path.{_≡_, refl, sym, ap, _∙_}
+use mathlib.Core.Path.{_≡_, ap, _∙_}
 use mathlib.Core.Logic.{_⊎_, inl, inr}
-use mathlib.Core.Bool.{Bool, true, false, not, cond, _&&_}
+use mathlib.Core.Bool.{Bool, true, not, _&&_}
 use mathlib.Core.List.{List, [], _∷_}
-use Prim.Native.Nat.{ℕ, suc, _+_, _-_, _*_, _≤_, _<_}
+use Prim.Native.Nat.{ℕ, suc, _+_, _-_, _*_, _≤_}
 use native.Mathlib.Omega.{arith}
-use native.Mathlib.Decide.{decLe}
-use lib.Dec.{T, leb, eqb, leb→le, le→leb, not-T}
+use lib.Dec.{T, eqb, leb→le, not-T}
 use Rattle.lists.specs.Lists.{count, same}
-use Rattle.lists.specs.Tests.{conj, and-both, not-not, by-contra, T-ext}
+use Rattle.lists.specs.Tests.{conj, and-both, not-not, by-contra}
 use Rattle.lists.specs.Entries.{same-eq, same-refl}
 use Rattle.lists.specs.Count.{count-all, count-not, cover, mono, law, law-if}
-use Rattle.field.specs.Field.{blank}
 use Rattle.sizes.specs.Sizes.{faults, degree}
-use Rattle.sizes.specs.Laws.{InRange}
-use Rattle.messages.specs.Messages.{readReport, said, times}
+use Rattle.messages.specs.Messages.{readReport, times}
 use Rattle.messages.specs.Wall.{Wall, Sound}
 use Rattle.messages.specs.Quorums.{faults-few, degree-few}
 use Rattle.codeword.specs.Codeword.{meets}
 use Rattle.codeword.specs.Apart.{meets-refl, met, apart}
-use Rattle.dispersal.specs.Dispersal.{exchange, agreesWith, agrees, firstQuorum, firstReport, reported, both, secondQuorum, secondReport, reportsOf, grade}
+use Rattle.dispersal.specs.Dispersal.{agrees, firstQuorum, firstReport, reported, both, secondQuorum, secondReport, reportsOf}
 use Rattle.dispersal.specs.Laws.{agrees-meets, report-read}
 use Rattle.dispersal.specs.Run.{Run}
 
@@ -83,6 +80,10 @@ module _ {n m : ℕ} {H : ℕ → Bool} {held : ℕ → List ℕ} {A R : ℕ →
       apart n m (held i) (held j) (record { columns-low = W .low; columns-high = W .high; bytes-low = D .bytes-low; bytes-high = D .bytes-high })
       (D .records i si) (D .records j sj) ne
 
+  -- "the count that lets at most two camps report needs 3d ≤ t"
+  few-enough : 3 * degree n ≤ faults n
+  few-enough = omega (arith, degree-few W)
+
   -- CLAIM 3.4. Sound columns that send a first report held at most two records
   pub claim-3-4 : (a b c : ℕ) → Sound n H a → Sound n H b → Sound n H c → T (ok₁ a) → T (ok₁ b) → T (ok₁ c)
       → (held a ≡ held b → ⊥) → (held a ≡ held c → ⊥) → (held b ≡ held c → ⊥) → ⊥
@@ -90,7 +91,7 @@ module _ {n m : ℕ} {H : ℕ → Bool} {held : ℕ → List ℕ} {A R : ℕ →
       omega (
         arith,
         faults-few W,
-        degree-few W,
+        few-enough,
         W .few,
         count-not H n,
         quorum₁ a oa,
@@ -140,7 +141,7 @@ module _ {n m : ℕ} {H : ℕ → Bool} {held : ℕ → List ℕ} {A R : ℕ →
       omega (
         arith,
         faults-few W,
-        degree-few W,
+        few-enough,
         W .few,
         few,
         quorum₂ j o,
@@ -197,7 +198,7 @@ module _ {n m : ℕ} {H : ℕ → Bool} {held : ℕ → List ℕ} {A R : ℕ →
   claim-3-6 r s few camps spmac small-r small-s c sc g =
       omega (
         arith,
-        degree-few W,
+        few-enough,
         few,
         second-sent c sc g,
         mono (λ i. H i && ok₂ i) (at r s) n (λ i a u h.

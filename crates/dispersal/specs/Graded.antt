@@ -1,9 +1,9 @@
 -- THEOREM 3.3: Protocol 3.2 is graded dispersal as Definition 3.1 has it.
-use mathlib.Core.Path.{_≡_, refl, sym, ap, _∙_}
+use mathlib.Core.Path.{_≡_, refl, sym}
 use mathlib.Core.Logic.{_⊎_, inl, inr}
 use mathlib.Core.Bool.{Bool, true, false, not, cond, _&&_}
 use mathlib.Core.List.{List}
-use Prim.Native.Nat.{ℕ, suc, _+_, _-_, _*_, _≤_, _<_}
+use Prim.Native.Nat.{ℕ, suc, _+_, _-_, _*_, _≤_}
 use native.Mathlib.Omega.{arith}
 use native.Mathlib.Decide.{decLe}
 use borrow.Author.Tests.{le-leb}
@@ -14,7 +14,7 @@ use Rattle.lists.specs.Entries.{same-eq, same-refl}
 use Rattle.lists.specs.Count.{mono}
 use Rattle.sizes.specs.Sizes.{faults}
 use Rattle.messages.specs.Messages.{times}
-use Rattle.messages.specs.Wall.{Wall, Sound}
+use Rattle.messages.specs.Wall.{Sound}
 use Rattle.messages.specs.Quorums.{faults-few, enough}
 use Rattle.codeword.specs.Codeword.{meets}
 use Rattle.codeword.specs.Apart.{meets-refl}

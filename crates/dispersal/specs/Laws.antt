@@ -1,7 +1,7 @@
 -- The laws of the definitions.
-use mathlib.Core.Path.{_≡_, refl, sym, ap, _∙_}
+use mathlib.Core.Path.{_≡_, refl, sym, _∙_}
 use mathlib.Core.Bool.{Bool, true, false, cond, _&&_}
-use mathlib.Core.List.{List, _++_}
+use mathlib.Core.List.{List}
 use Prim.Native.Nat.{ℕ, _+_, _-_, _*_, _≤_, _<_}
 use native.Mathlib.Omega.{arith}
 use native.Mathlib.Decide.{decLt}
@@ -21,7 +21,6 @@ use Rattle.messages.specs.Laws.{point-is, same-report, said-laid, heard-same, a
 use Rattle.codeword.specs.Codeword.{point, values, meetIn, meets}
 use Rattle.codeword.specs.Apart.{point-lt, length-values, said-values}
 use Rattle.dispersal.specs.Dispersal.{exchange, agreesIn, agreesWith, agreementAt, agreements, agrees, reported, both, reportsOf, exchangeRefusal, agreed}
-use Rattle.dispersal.specs.declared.exchange.Agreed.{Agreed}
 
 -- THE MESSAGE OF THE EXCHANGE
 

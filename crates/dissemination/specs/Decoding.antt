@@ -1,9 +1,9 @@
 -- From the decoder's answers to the record, as the code goes.
 use mathlib.Core.Path.{_≡_, refl, sym, ap, fun-ext, subst, _∙_}
 use mathlib.Core.Bool.{Bool, true, false, true≢false, not, cond, _&&_, _||_}
-use mathlib.Core.List.{List, [], _∷_}
-use mathlib.Core.Option.{Option, none, some}
-use Prim.Native.Nat.{ℕ, zero, suc, _+_, _-_, _*_, _/_, _%_, _≤_, _<_}
+use mathlib.Core.List.{List}
+use mathlib.Core.Option.{none, some}
+use Prim.Native.Nat.{ℕ, _+_, _*_, _/_, _%_, _≤_, _<_}
 use native.Mathlib.Nat.{mod-lt, mod-eq-of-lt, div-lt-iff-lt-mul}
 use native.Mathlib.Decide.{decLt}
 use native.Mathlib.Omega.{arith}
@@ -26,7 +26,6 @@ use Rattle.decoder.specs.declared.Decoded.the-variants.{Polynomial, Nothing, Re
 use Rattle.decoder.specs.Decoder.{decoded, four, polynomialOf}
 use Rattle.dissemination.specs.Dissemination.{spoken, pointsIn, pointAt, blockOf, there, coefficient, isByte, isBlock, byteAt, recordOf, roundRefusal, answerOf, refusedWith, disseminated}
 use Rattle.dissemination.specs.Laws.{silenced, said-silenced, round-accepted}
-use Rattle.dissemination.specs.declared.decoding.Disseminated.{Disseminated}
 
 -- v may stand at place p of a record of m bytes
 unfoldable pub isByteAt : ℕ → ℕ → ℕ → Bool

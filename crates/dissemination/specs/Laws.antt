@@ -1,11 +1,10 @@
 -- The laws that the calls use.
 use mathlib.Core.Path.{_≡_, refl, sym, ap, _∙_}
 use mathlib.Core.Bool.{Bool, true, false, cond}
-use mathlib.Core.List.{List, []}
+use mathlib.Core.List.{List}
 use Prim.Native.Nat.{ℕ, zero, suc, _+_, _-_, _*_, _≤_, _<_}
 use native.Mathlib.Omega.{arith}
 use borrow.Author.Tests.{lt-ltb, ne-eqb}
-use lib.Dec.{eqb}
 use lib.ListN.{length, getD, take, replicate}
 use lib.Seq.{ext-getD, getD-take, length-take-le}
 use Rattle.lists.specs.Lists.{listOf}
@@ -13,13 +12,12 @@ use Rattle.lists.specs.Entries.{length-listOf, getD-listOf}
 use Rattle.field.specs.Field.{blank}
 use Rattle.sizes.specs.Sizes.{blocks, refusal}
 use Rattle.sizes.specs.Laws.{accepted, blocks-le, columns-accepted}
-use Rattle.messages.specs.Messages.{readPoint, said, from, laid, heard, heardOfAll}
+use Rattle.messages.specs.Messages.{readPoint, said, from, laid, heardOfAll}
 use Rattle.messages.specs.Laws.{said-laid, from-place, from-heard, heard-same, accepted as messages-accepted}
 use Rattle.codeword.specs.Codeword.{values}
 use Rattle.codeword.specs.Apart.{length-values}
 use Rattle.dissemination.specs.Dissemination.{spoken, pointsIn, pointAt, points, keptPoint, keptAt, keptPoints, roundRefusal, kept}
 use Rattle.dissemination.specs.Kept.{kept-same}
-use Rattle.dissemination.specs.declared.points.KeptPoints.{KeptPoints}
 
 -- SPEAKING OR NOT
 

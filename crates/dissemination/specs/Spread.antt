@@ -1,6 +1,6 @@
 -- THEOREM 3.9: Protocol 3.8 is data dissemination as Definition 3.7 has it.
 use mathlib.Core.Path.{_≡_, refl, sym, ap, _∙_}
-use mathlib.Core.Bool.{Bool, true, false, cond, _&&_, _||_}
+use mathlib.Core.Bool.{Bool, true, false, cond, _||_}
 use mathlib.Core.List.{List}
 use mathlib.Core.Option.{Option, none, some}
 use Prim.Native.Nat.{ℕ, suc, _+_, _-_, _*_, _/_, _%_, _≤_, _<_}
@@ -8,26 +8,26 @@ use native.Mathlib.Nat.{div-lt-iff-lt-mul}
 use native.Mathlib.Omega.{arith}
 use native.Mathlib.Decide.{decLt}
 use borrow.Author.Tests.{lt-ltb, le-ltb}
-use lib.Dec.{T, eqb, leb, ltb, leb→le, le→leb, eqb→eq, lt→ltb}
-use lib.ListN.{length, getD}
+use lib.Dec.{T, eqb, ltb, leb→le, le→leb, lt→ltb}
+use lib.ListN.{getD}
 use lib.Seq.{ext-getD}
-use Rattle.lists.specs.Lists.{count, same, all, Below, listOf}
-use Rattle.lists.specs.Tests.{conj, and-both, or-left, or-right, by-contra, is-true, eq→eqb}
-use Rattle.lists.specs.Entries.{each-all, length-listOf, getD-listOf, same-eq}
+use Rattle.lists.specs.Lists.{count, all, Below, listOf}
+use Rattle.lists.specs.Tests.{conj, and-both, or-left, or-right, is-true, eq→eqb}
+use Rattle.lists.specs.Entries.{each-all, length-listOf, getD-listOf}
 use Rattle.lists.specs.Count.{mono}
 use Rattle.field.specs.Field.{blank}
 use Rattle.sizes.specs.Sizes.{faults, degree, blocks}
-use Rattle.sizes.specs.Laws.{InRange, Sized, sized}
-use Rattle.block.specs.Block.{part, block, value}
+use Rattle.sizes.specs.Laws.{InRange, sized}
+use Rattle.block.specs.Block.{block, value}
 use Rattle.block.specs.Value.{getD-part, length-part, below-part}
 use Rattle.messages.specs.Messages.{readPoint, said, times}
 use Rattle.messages.specs.Laws.{point-is}
 use Rattle.messages.specs.Wall.{Wall, Sound}
 use Rattle.messages.specs.Quorums.{enough, unheard}
-use Rattle.codeword.specs.Codeword.{Held, point, values}
+use Rattle.codeword.specs.Codeword.{Held, point}
 use Rattle.codeword.specs.Apart.{point-lt, said-values, byte-at}
-use Rattle.decoder.specs.Decoder.{at, meetsAt, Answer, IsAnswer, decoded, polynomialOf}
-use Rattle.decoder.specs.Exactly.{Accepts, exactly}
+use Rattle.decoder.specs.Decoder.{at, meetsAt}
+use Rattle.decoder.specs.Exactly.{exactly}
 use Rattle.dissemination.specs.Dissemination.{spoken, points, often, keptPoint, pointAt, blockOf, there, coefficient, isByte, isBlock, byteAt, recordOf}
 use Rattle.dissemination.specs.Kept.{kept-is}
 use Rattle.dissemination.specs.Run.{Run, inputs, Consistent}

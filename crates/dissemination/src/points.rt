@@ -10,7 +10,7 @@ ghost use lib.ListN.{length, drop};
 ghost use Rattle.lists.specs.Lists.{listOf};
 ghost use Rattle.sizes.specs.Sizes.{blocks, refusal as refusalOfSizes};
 ghost use Rattle.messages.specs.Messages.{said, from, unlessRefused};
-ghost use Rattle.dissemination.specs.Dissemination.{points as pointsOf, pointsToAll, pointsIn, keptPoint, keptAt, keptPoints, roundRefusal, kept as keptOf};
+ghost use Rattle.dissemination.specs.Dissemination.{points as pointsOf, pointsToAll, keptPoint, keptAt, keptPoints, roundRefusal, kept as keptOf};
 ghost use Rattle.dissemination.specs.Kept.{better as betterOf};
 
 // What listening to the points answers: its refusal, 0 for none, and the kept point of each block, blank past the blocks; all blank

@@ -14,17 +14,17 @@ phases n = faults n + 1
 unfoldable pub bits : (ℕ → ℕ) → ℕ → ℕ
 bits received j = readBit (received j)
 
+-- the bit that was received at least `need` times, 1 if both were; `other` if none was
+unfoldable pub chosen : ℕ → ℕ → (ℕ → ℕ) → ℕ → ℕ
+chosen n need received other = cond (leb need (times (bits received) 1 n)) 1 (cond (leb need (times (bits received) 0 n)) 0 other)
+
 -- "If 0 or 1 was received at least n - t times, propose it in the next round, else blank."
 unfoldable pub proposal : ℕ → (ℕ → ℕ) → ℕ
-proposal n votes =
-    cond (leb (n - faults n) (times (bits votes) 1 n)) 1
-    (cond (leb (n - faults n) (times (bits votes) 0 n)) 0 blank)
+proposal n votes = chosen n (n - faults n) votes blank
 
--- "a bit proposed at least t + 1 times becomes the vote; if both were, 1": from the vote before
+-- "a bit proposed at least t + 1 times becomes the vote; if both were, 1": else the vote is as it was
 unfoldable pub settled : ℕ → (ℕ → ℕ) → ℕ → ℕ
-settled n proposals vote =
-    cond (leb (faults n + 1) (times (bits proposals) 1 n)) 1
-    (cond (leb (faults n + 1) (times (bits proposals) 0 n)) 0 vote)
+settled n proposals vote = chosen n (faults n + 1) proposals vote
 
 -- "The vote is firm if it was proposed at least n - t times."
 unfoldable pub firm : ℕ → (ℕ → ℕ) → ℕ → Bool

@@ -2,17 +2,16 @@
 use mathlib.Core.Path.{_≡_, refl, sym, ap, _∙_}
 use mathlib.Core.Bool.{Bool, true, false, cond}
 use mathlib.Core.Logic.{_⊎_, inl, inr}
-use Prim.Native.Nat.{ℕ, zero, suc, _+_, _-_, _≤_, _<_}
+use Prim.Native.Nat.{ℕ, zero, suc, _-_, _≤_, _<_}
 use native.Mathlib.Omega.{arith}
-use borrow.Author.Tests.{le-leb, lt-leb, eq-eqb, ne-eqb}
-use lib.Dec.{T, leb, leb→le, eqb, eqb→eq}
-use Rattle.lists.specs.Tests.{passes}
+use borrow.Author.Tests.{leb-true, le-leb, lt-leb, eq-eqb, ne-eqb}
+use lib.Dec.{T, leb, eqb, eqb→eq}
+use Rattle.lists.specs.Tests.{passes, either-lt}
 use Rattle.lists.specs.Count.{none, count-same}
 use Rattle.field.specs.Field.{blank}
-use Rattle.sizes.specs.Sizes.{faults}
 use Rattle.messages.specs.Messages.{readBit, times}
 use Rattle.messages.specs.Laws.{bit-is, bit-or-blank, same-bit}
-use Rattle.king.specs.King.{bits, proposal, settled, firm, word, crowned}
+use Rattle.king.specs.King.{bits, chosen, word, crowned}
 
 -- READING AND COUNTING BITS
 
@@ -44,46 +43,34 @@ times-none R b n h l = none (λ j. eqb (readBit (R j)) b) n (λ j _ _ t. go (R j
 
 -- EACH STEP
 
-module _ (n : ℕ) (R : ℕ → ℕ) where
-  -- a bit that a quorum sent, the other not
-  pub proposal-is : (b : ℕ) → b ≤ 1 → n - faults n ≤ times (bits R) b n → times (bits R) (1 - b) n < n - faults n → proposal n R ≡ b
-  unfolding proposal
-  proposal-is zero h l m = rw (lt-leb (n - faults n) (times (bits R) 1 n) m, le-leb (n - faults n) (times (bits R) 0 n) l)
-  proposal-is (suc zero) h l m = rw (le-leb (n - faults n) (times (bits R) 1 n) l)
-  proposal-is (suc (suc b)) h l m = absurd (omega arith)
+module _ (n need : ℕ) (R : ℕ → ℕ) (other : ℕ) where
+  -- a bit that was received often enough, the other not
+  pub chosen-is : (b : ℕ) → b ≤ 1 → need ≤ times (bits R) b n → times (bits R) (1 - b) n < need → chosen n need R other ≡ b
+  unfolding chosen
+  chosen-is zero h l m = rw (lt-leb need (times (bits R) 1 n) m, le-leb need (times (bits R) 0 n) l)
+  chosen-is (suc zero) h l m = rw (le-leb need (times (bits R) 1 n) l)
+  chosen-is (suc (suc b)) h l m = absurd (omega arith)
 
-  -- whoever proposes a bit received it from a quorum
-  pub proposal-only : (b : ℕ) → b ≤ 1 → proposal n R ≡ b → n - faults n ≤ times (bits R) b n
-  unfolding proposal
-  proposal-only zero h e = leb→le _ _ (zero-sent (leb (n - faults n) (times (bits R) 1 n)) (leb (n - faults n) (times (bits R) 0 n)) e)
+  -- a bit that was chosen for being received
+  pub chosen-only : (b : ℕ) → b ≤ 1 → 1 < other → chosen n need R other ≡ b → need ≤ times (bits R) b n
+  unfolding chosen
+  chosen-only b h l = go b h (leb need (times (bits R) 1 n)) (leb need (times (bits R) 0 n)) refl refl
     where
-      zero-sent : (p q : Bool) → _≡_ {A = ℕ} (cond p 1 (cond q 0 blank)) 0 → T q
-      zero-sent true q e = absurd (omega arith)
-      zero-sent false true e = tt
-      zero-sent false false e = absurd (omega arith)
-  proposal-only (suc zero) h e = leb→le _ _ (one-sent (leb (n - faults n) (times (bits R) 1 n)) (leb (n - faults n) (times (bits R) 0 n)) e)
-    where
-      one-sent : (p q : Bool) → _≡_ {A = ℕ} (cond p 1 (cond q 0 blank)) 1 → T p
-      one-sent true q e = tt
-      one-sent false true e = absurd (omega arith)
-      one-sent false false e = absurd (omega arith)
-  proposal-only (suc (suc b)) h e = absurd (omega arith)
+      go : (b : ℕ) → b ≤ 1 → (p q : Bool) → leb need (times (bits R) 1 n) ≡ p → leb need (times (bits R) 0 n) ≡ q
+          → _≡_ {A = ℕ} (cond p 1 (cond q 0 other)) b → need ≤ times (bits R) b n
+      go zero h true q ep eq e = absurd (omega arith)
+      go zero h false true ep eq e = leb-true need (times (bits R) 0 n) eq
+      go zero h false false ep eq e = absurd (omega arith)
+      go (suc zero) h true q ep eq e = leb-true need (times (bits R) 1 n) ep
+      go (suc zero) h false true ep eq e = absurd (omega arith)
+      go (suc zero) h false false ep eq e = absurd (omega arith)
+      go (suc (suc b)) h p q ep eq e = absurd (omega arith)
 
-  -- a bit that t + 1 proposed, the other not
-  pub settled-is : (v b : ℕ) → b ≤ 1 → faults n + 1 ≤ times (bits R) b n → times (bits R) (1 - b) n ≤ faults n → settled n R v ≡ b
-  unfolding settled
-  settled-is v zero h l m = rw (lt-leb (faults n + 1) (times (bits R) 1 n) (omega arith), le-leb (faults n + 1) (times (bits R) 0 n) l)
-  settled-is v (suc zero) h l m = rw (le-leb (faults n + 1) (times (bits R) 1 n) l)
-  settled-is v (suc (suc b)) h l m = absurd (omega arith)
-
-  pub settled-bit : (v : ℕ) → v ≤ 1 → settled n R v ≤ 1
-  unfolding settled
-  settled-bit v h = go (leb (faults n + 1) (times (bits R) 1 n)) (leb (faults n + 1) (times (bits R) 0 n))
-    where
-      go : (p q : Bool) → cond p 1 (cond q 0 v) ≤ 1
-      go true q = omega arith
-      go false true = omega arith
-      go false false = h
+  -- nothing but a bit, or what else there is
+  pub chosen-lt : (k : ℕ) → 1 < k → other < k → chosen n need R other < k
+  unfolding chosen
+  chosen-lt k h l = either-lt (leb need (times (bits R) 1 n)) 1 (cond (leb need (times (bits R) 0 n)) 0 other) k h
+      (either-lt (leb need (times (bits R) 0 n)) 0 other k (omega arith) l)
 
 -- a king's word is its vote
 pub word-king : (king own vote : ℕ) → own ≡ king → word king own vote ≡ vote

@@ -3,7 +3,7 @@
 use field::Field;
 ghost use mathlib.Core.Path.{_≡_};
 ghost use Rattle.messages.specs.Messages.{from, times};
-ghost use Rattle.king.specs.King.{bits, proposal as proposalOf, settled as settledOf, firm as firmOf, word as wordOf, crowned as crownedOf};
+ghost use Rattle.king.specs.King.{bits, chosen as chosenOf, proposal as proposalOf, settled as settledOf, firm as firmOf, word as wordOf, crowned as crownedOf};
 
 // How often a bit was received; what is no bit never was.
 fn received(n: u8, values: &[u16], bit: u8) -> usize
@@ -15,32 +15,31 @@ fn received(n: u8, values: &[u16], bit: u8) -> usize
     messages::times(n, values, bit as u16)
 }
 
+// The bit that was received at least `need` times, 1 if both were; `other` if none was.
+fn chosen(n: u8, values: &[u16], need: usize, other: u16) -> u16
+    ensures { λ r. ⌜ r ≡ chosenOf n need (from (now (values .entry))) other ⌝ }
+{
+    if need <= received(n, values, 1) {
+        return 1;
+    }
+    if need <= received(n, values, 0) {
+        return 0;
+    }
+    other
+}
+
 // The proposal from the votes received: a bit received at least n - t times, else blank.
 pub fn proposal(n: u8, votes: [u16; 31]) -> u16
     ensures { λ r. ⌜ r ≡ proposalOf n (from votes) ⌝ }
 {
-    let quorum = n as usize - sizes::faults(n);
-    if quorum <= received(n, &votes, 1) {
-        return 1;
-    }
-    if quorum <= received(n, &votes, 0) {
-        return 0;
-    }
-    Field::BLANK
+    chosen(n, &votes, n as usize - sizes::faults(n), Field::BLANK)
 }
 
 // The vote after the proposals: a bit proposed at least t + 1 times, 1 if both were; else the vote as it was.
 pub fn settled(n: u8, proposals: [u16; 31], vote: u8) -> u8
     ensures { λ r. ⌜ r ≡ settledOf n (from proposals) vote ⌝ }
 {
-    let some = sizes::faults(n) + 1;
-    if some <= received(n, &proposals, 1) {
-        return 1;
-    }
-    if some <= received(n, &proposals, 0) {
-        return 0;
-    }
-    vote
+    chosen(n, &proposals, sizes::faults(n) + 1, vote as u16) as u8
 }
 
 // Whether a vote is firm: proposed at least n - t times.

@@ -8,7 +8,7 @@ ghost use Rattle.lists.specs.Lists.{listOf};
 ghost use Rattle.locator.specs.Held.{Held, runOf};
 ghost use Rattle.field.specs.Field.{add, subtract, multiply};
 ghost use Rattle.field.specs.Congruence.{_≋_};
-ghost use Rattle.locator.specs.Locator.{pointAt, firstAt, secondAt, mixedAt, cleared, raised, leads as leadsOf, turn as turnOf, located};
+ghost use Rattle.locator.specs.Locator.{firstAt, secondAt, mixedAt, cleared, raised, leads as leadsOf, turn as turnOf, located};
 
 // How heavy the two pairs are.
 struct Weights {

@@ -1,11 +1,9 @@
 -- `point` meets its contract.
 use Rattle.field.specs.declared.Field.{Field}
-use mathlib.Core.List.{List}
 use mathlib.Core.Path.{ap, _∙_}
 use Prim.Native.Nat.{ℕ, _+_, _*_}
 use native.Mathlib.Nat.{mul-le-mul}
 use native.Mathlib.Omega.{arith}
-use Rattle.field.specs.Field.{element}
 use Rattle.block.specs.Block.{part, value}
 use Rattle.sizes.specs.Laws.{degree-le}
 use Rattle.codeword.specs.Codeword.{point}

@@ -1,52 +1,27 @@
 -- `proposal` meets its contract.
 use native.Mathlib.Omega.{arith}
-use borrow.Author.Tests.{le-leb, lt-leb}
 use Rattle.sizes.specs.Laws.{faults-le}
 use Rattle.king.specs.King.{proposal}
 use borrow.Author.Needs.{needs}
 use Rattle.king.proofs.proposal.Statement.{statement}
 use Rattle.king.proofs.proposal.Tie as tie
 
+slice-aggregate-chosen : tie.Need-slice-aggregate-chosen
+slice-aggregate-chosen c = search needs
+
 faults-requires : tie.Need-faults-requires
 faults-requires c κs = search needs
 
-sub-quorum : tie.Need-sub-quorum
-sub-quorum c = omega (arith, c .faults .ensures, faults-le (c .before .args .n))
+sub-chosen : tie.Need-sub-chosen
+sub-chosen c = omega (arith, c .faults .ensures, faults-le (c .before .before .args .n))
 
-slice-aggregate-received : tie.Need-slice-aggregate-received
-slice-aggregate-received c = search needs
-
-received-requires : tie.Need-received-requires
-received-requires c κs = search needs
+chosen-requires : tie.Need-chosen-requires
+chosen-requires c κs = search needs
 
 returns : tie.Need-returns
 unfolding proposal
-returns c = simp (rw (c .before .before .before .faults .ensures, c .before .received .ensures) at (le-leb _ _ (c .if1 .taken)))
-
-slice-aggregate-received-2 : tie.Need-slice-aggregate-received-2
-slice-aggregate-received-2 c = search needs
-
-received-requires-2 : tie.Need-received-requires-2
-received-requires-2 c κs = search needs
-
-returns-2 : tie.Need-returns-2
-unfolding proposal
-returns-2 c = simp (rw (c .before .before .before .before .before .before .faults .ensures, c .before .before .before .before .received .ensures) at (lt-leb _ _ (c .before .before .before .if1 .left)), rw (c .before .before .before .before .before .before .faults .ensures, c .before .received2 .ensures) at (le-leb _ _ (c .if2 .taken)))
-
-returns-3 : tie.Need-returns-3
-unfolding proposal
-returns-3 c = simp (rw (c .before .before .before .before .before .before .faults .ensures, c .before .before .before .before .received .ensures) at (lt-leb _ _ (c .before .before .before .if1 .left)), rw (c .before .before .before .before .before .before .faults .ensures, c .before .received2 .ensures) at (lt-leb _ _ (c .if2 .left)))
+returns c = rw (c .before .faults .ensures) at (c .chosen .ensures)
 
 pub proposal-spec : {M : Type 1} → statement M
 proposal-spec =
-    tie.close
-    (tie.spec
-    faults-requires
-    sub-quorum
-    slice-aggregate-received
-    received-requires
-    returns
-    slice-aggregate-received-2
-    received-requires-2
-    returns-2
-    returns-3)
+    tie.close (tie.spec slice-aggregate-chosen faults-requires sub-chosen chosen-requires returns)

@@ -1,52 +1,41 @@
 -- `settled` meets its contract.
+use Rattle.king.specs.King.{chosen}
 use native.Mathlib.Omega.{arith}
-use borrow.Author.Tests.{le-leb, lt-leb}
+use Prim.Native.Nat.{_+_}
 use Rattle.sizes.specs.Laws.{faults-le}
+use Rattle.messages.specs.Messages.{from}
 use Rattle.king.specs.King.{settled}
+use Rattle.king.specs.Laws.{chosen-lt}
 use borrow.Author.Needs.{needs}
 use Rattle.king.proofs.settled.Statement.{statement}
 use Rattle.king.proofs.settled.Tie as tie
 
+slice-aggregate-chosen : tie.Need-slice-aggregate-chosen
+slice-aggregate-chosen c = search needs
+
 faults-requires : tie.Need-faults-requires
 faults-requires c κs = search needs
 
-add-some : tie.Need-add-some
-add-some c = omega (arith, c .faults .ensures, faults-le (c .before .args .n))
+add-chosen : tie.Need-add-chosen
+add-chosen c = omega (arith, c .faults .ensures, faults-le (c .before .before .args .n))
 
-slice-aggregate-received : tie.Need-slice-aggregate-received
-slice-aggregate-received c = search needs
+chosen-requires : tie.Need-chosen-requires
+chosen-requires c κs = search needs
 
-received-requires : tie.Need-received-requires
-received-requires c κs = search needs
+cast-result : tie.Need-cast-result
+cast-result c = record { fits = omega (arith, c .chosen .ensures, chosen-lt (c .before .before .before .args .n) (c .before .faults .result + 1) (from (c .before .before .before .args .t2)) (c .before .before .before .args .vote) 256 (omega arith) (omega arith)) }
 
 returns : tie.Need-returns
 unfolding settled
-returns c = simp (rw (c .before .before .before .faults .ensures, c .before .received .ensures) at (le-leb _ _ (c .if1 .taken)))
-
-slice-aggregate-received-2 : tie.Need-slice-aggregate-received-2
-slice-aggregate-received-2 c = search needs
-
-received-requires-2 : tie.Need-received-requires-2
-received-requires-2 c κs = search needs
-
-returns-2 : tie.Need-returns-2
-unfolding settled
-returns-2 c = simp (rw (c .before .before .before .before .before .before .faults .ensures, c .before .before .before .before .received .ensures) at (lt-leb _ _ (c .before .before .before .if1 .left)), rw (c .before .before .before .before .before .before .faults .ensures, c .before .received2 .ensures) at (le-leb _ _ (c .if2 .taken)))
-
-returns-3 : tie.Need-returns-3
-unfolding settled
-returns-3 c = simp (rw (c .before .before .before .before .before .before .faults .ensures, c .before .before .before .before .received .ensures) at (lt-leb _ _ (c .before .before .before .if1 .left)), rw (c .before .before .before .before .before .before .faults .ensures, c .before .received2 .ensures) at (lt-leb _ _ (c .if2 .left)))
+returns c = rw (c .before .faults .ensures) at (c .chosen .ensures)
 
 pub settled-spec : {M : Type 1} → statement M
 settled-spec =
     tie.close
     (tie.spec
+    slice-aggregate-chosen
     faults-requires
-    add-some
-    slice-aggregate-received
-    received-requires
-    returns
-    slice-aggregate-received-2
-    received-requires-2
-    returns-2
-    returns-3)
+    add-chosen
+    chosen-requires
+    cast-result
+    returns)

@@ -1,5 +1,4 @@
 -- `word` meets its contract.
-use mathlib.Core.Path.{sym}
 use borrow.Author.Tests.{eq-eqb, ne-eqb}
 use Rattle.king.specs.King.{word}
 use Rattle.king.proofs.word.Statement.{statement}

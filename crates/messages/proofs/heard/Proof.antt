@@ -4,7 +4,6 @@ use Prim.Native.Nat.{ℕ, _-_}
 use lib.ListN.{getD}
 use Rattle.messages.specs.Messages.{said}
 use Rattle.messages.specs.Laws.{heard-own, heard-other}
-use borrow.Author.Tests.{eq-eqb, ne-eqb}
 use Rattle.messages.specs.Messages.{heard, said}
 use native.Mathlib.Omega.{arith}
 use borrow.Author.Needs.{needs}

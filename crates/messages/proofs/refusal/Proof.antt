@@ -1,8 +1,6 @@
 -- `refusal` meets its contract.
 use mathlib.Core.Path.{sym}
-use Prim.Native.Nat.{_*_}
 use Rattle.messages.specs.Laws.{refused-before, refused-length, not-refused}
-use borrow.Author.Tests.{eq-eqb, ne-eqb}
 use native.Mathlib.Omega.{arith}
 use Rattle.messages.specs.Messages.{refusal}
 use borrow.Author.Needs.{needs}

@@ -5,7 +5,7 @@ use native.Mathlib.Omega.{arith}
 use Prim.Native.Nat.{_-_}
 use borrow.Author.Tests.{le-leb, lt-leb}
 use Rattle.lists.specs.Loops.{Filled, filled-none, filled-more, filled-part}
-use Rattle.messages.specs.Messages.{said, written}
+use Rattle.messages.specs.Messages.{said}
 use Rattle.messages.proofs.write.Statement.{statement}
 use Rattle.messages.proofs.write.Tie as tie
 

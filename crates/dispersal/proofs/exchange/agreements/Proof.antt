@@ -1,5 +1,5 @@
 -- `exchange/agreements` meets its contract.
-use mathlib.Core.Path.{_≡_, sym, _∙_}
+use mathlib.Core.Path.{sym, _∙_}
 use Rattle.dispersal.specs.Laws.{exchange-accepted, agreed-refused, agreed-done}
 use borrow.Author.Needs.{needs}
 use Rattle.dispersal.proofs.exchange.agreements.Statement.{statement}

@@ -1,9 +1,7 @@
 -- `exchange/flags` meets its contract.
 use native.Mathlib.Omega.{arith}
 use Prim.Native.Nat.{_-_}
-use mathlib.Core.Path.{_≡_}
 use Rattle.lists.specs.Loops.{Filled, filled-none, filled-more, filled-done}
-use Rattle.messages.specs.Messages.{laid}
 use Rattle.codeword.specs.Codeword.{values}
 use Rattle.dispersal.specs.Dispersal.{agreementAt, agreements}
 use Rattle.dispersal.proofs.exchange.flags.Statement.{statement}

@@ -1,6 +1,5 @@
 -- `exchange/send_all` meets its contract.
-use mathlib.Core.Path.{_≡_, refl, sym, ap, _∙_}
-use Prim.Native.Nat.{ℕ, _-_, _*_}
+use Prim.Native.Nat.{_-_, _*_}
 use native.Mathlib.Omega.{arith}
 use Rattle.lists.specs.Loops.{Rowed, rowed-none, rowed-fits, rowed-more, rowed-room, rowed-done}
 use Rattle.sizes.specs.Sizes.{blocks}

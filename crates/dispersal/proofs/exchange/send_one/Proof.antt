@@ -1,10 +1,9 @@
 -- `exchange/send_one` meets its contract.
 use Rattle.messages.specs.Messages.{said}
-use mathlib.Core.Path.{_≡_, refl, sym, ap, _∙_}
-use Prim.Native.Nat.{ℕ, _+_, _*_, _≤_}
+use mathlib.Core.Path.{ap, _∙_}
+use Prim.Native.Nat.{ℕ, _+_}
 use mathlib.Core.List.{List}
 use native.Mathlib.Omega.{arith}
-use lib.ListN.{length}
 use Rattle.sizes.specs.Laws.{blocks-le}
 use Rattle.messages.specs.Laws.{said-laid, written-as}
 use Rattle.dispersal.specs.Dispersal.{exchange}

@@ -1,9 +1,6 @@
 -- `reports/came` meets its contract.
-use mathlib.Core.Path.{_≡_, refl, sym, ap, _∙_}
-use Prim.Native.Nat.{ℕ, _+_}
+use mathlib.Core.Path.{refl}
 use borrow.Author.Tests.{lt-ltb, le-ltb}
-use lib.Dec.{eqb}
-use Rattle.messages.specs.Messages.{from, readReport}
 use Rattle.messages.specs.Laws.{from-place}
 use Rattle.dispersal.specs.Dispersal.{reportAt}
 use borrow.Author.Needs.{needs}

@@ -1,7 +1,7 @@
 -- `reports/in_both` meets its contract.
 use mathlib.Core.Path.{sym, ap, ap₂, _∙_}
 use mathlib.Core.Bool.{Bool, _&&_}
-use Prim.Native.Nat.{ℕ, _+_, _-_}
+use Prim.Native.Nat.{_-_}
 use native.Mathlib.Omega.{arith}
 use Rattle.lists.specs.Lists.{bit}
 use Rattle.lists.specs.Loops.{Counted, counted-none, counted-more, counted-done, bit-most}

@@ -1,19 +1,11 @@
 -- `decoding/decode` meets its contract.
 use Rattle.dissemination.specs.Decoding.{decodes-told}
-use mathlib.Core.Path.{_≡_, sym, ap, subst, _∙_}
-use mathlib.Core.Bool.{Bool, true, false}
-use mathlib.Core.List.{List}
-use Prim.Native.Nat.{ℕ, _+_, _≤_}
+use mathlib.Core.Path.{sym, _∙_}
 use native.Mathlib.Omega.{arith}
 use borrow.Author.Tests.{not-true, not-false}
-use lib.ListN.{length}
-use Rattle.lists.specs.Lists.{listOf}
-use Rattle.sizes.specs.Sizes.{blocks}
 use Rattle.sizes.specs.Laws.{degree-le}
-use Rattle.messages.specs.Messages.{said}
-use Rattle.dissemination.specs.Dissemination.{spoken, pointsIn}
-use Rattle.dissemination.specs.Laws.{round-accepted, said-silenced}
-use Rattle.dissemination.specs.Decoding.{Decodes, storedByte, pointsIn-same, disseminated-refused, disseminated-none, disseminated-some}
+use Rattle.dissemination.specs.Laws.{round-accepted}
+use Rattle.dissemination.specs.Decoding.{disseminated-refused, disseminated-none, disseminated-some}
 use borrow.Author.Needs.{needs}
 use Rattle.dissemination.proofs.decoding.decode.Statement.{statement}
 use Rattle.dissemination.proofs.decoding.decode.Tie as tie

@@ -1,16 +1,10 @@
 -- `decoding/decode_blocks` meets its contract.
-use mathlib.Core.Option.{Option, none}
-use Prim.Native.Nat.{_<_}
-use Rattle.lists.specs.Lists.{all, listOf}
-use Rattle.decoder.specs.declared.Coefficients.{Coefficients}
+use mathlib.Core.Option.{none}
 use Rattle.decoder.specs.declared.Decoded.{Decoded}
 use Rattle.decoder.specs.declared.Decoded.the-variants.{Polynomial, Nothing, Refused}
-use Rattle.decoder.specs.Decoder.{decoded, polynomialOf}
-use Rattle.dissemination.specs.Dissemination.{pointAt, isBlock}
-use Rattle.dissemination.specs.Decoding.{byteIn}
-use mathlib.Core.Path.{_≡_, refl, sym, ap, _∙_}
-use mathlib.Core.Bool.{Bool, true, false, not}
-use mathlib.Core.List.{List, [], _∷_}
+use Rattle.decoder.specs.Decoder.{polynomialOf}
+use mathlib.Core.Path.{_≡_, refl, sym, _∙_}
+use mathlib.Core.List.{[], _∷_}
 use mathlib.Core.Logic.{inl, inr}
 use types.Run.{OneOf}
 use denote.Enum.Declared.{tagOf}
@@ -18,14 +12,14 @@ use Rattle.decoder.proofs.Decoded.{the-type}
 use native.Mathlib.Nat.{mul-le-mul}
 use native.Mathlib.Omega.{arith}
 use borrow.Author.Needs.{needs}
-use borrow.Author.Tests.{not-true, not-false}
+use borrow.Author.Tests.{not-true}
 use Rattle.sizes.specs.Laws.{accepted, blocks-le, degree-le}
 use Rattle.dissemination.specs.Laws.{few-blocks}
 use Rattle.dissemination.specs.Decoding.{answerIn, block-missing, block-bytes, done-none, done-more, decodes-none, decodes-all}
 use Rattle.sizes.specs.Sizes.{blocks, degree}
 use Rattle.dissemination.specs.Dissemination.{pointsIn}
 use Rattle.dissemination.specs.Decoding.{Done}
-use Prim.Native.Nat.{ℕ, _+_, _-_, _*_}
+use Prim.Native.Nat.{ℕ, _+_, _-_}
 use Rattle.dissemination.proofs.decoding.decode_blocks.Statement.{statement}
 use Rattle.dissemination.proofs.decoding.decode_blocks.Tie as tie
 

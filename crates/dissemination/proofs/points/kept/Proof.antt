@@ -1,5 +1,5 @@
 -- `points/kept` meets its contract.
-use mathlib.Core.Path.{_≡_, sym, _∙_}
+use mathlib.Core.Path.{sym, _∙_}
 use Rattle.dissemination.specs.Laws.{round-accepted, kept-refused, kept-done}
 use borrow.Author.Needs.{needs}
 use Rattle.dissemination.proofs.points.kept.Statement.{statement}

@@ -1,6 +1,6 @@
 -- `points/kept_point` meets its contract.
 use mathlib.Core.Path.{sym, ap, _∙_}
-use Prim.Native.Nat.{ℕ, _+_, _-_}
+use Prim.Native.Nat.{ℕ, _-_}
 use native.Mathlib.Omega.{arith}
 use Rattle.messages.specs.Messages.{from}
 use Rattle.messages.specs.Laws.{from-place}

@@ -1,5 +1,5 @@
 -- `points/send` meets its contract.
-use mathlib.Core.Path.{_≡_, sym, _∙_}
+use mathlib.Core.Path.{sym, _∙_}
 use Rattle.messages.specs.Laws.{if-refused, if-done}
 use Rattle.dissemination.specs.Laws.{round-accepted}
 use borrow.Author.Needs.{needs}

@@ -108,17 +108,19 @@ fn same_message(own: u8, me: &[u16], w: u16, inbox: &[u16], j: u8, expected: &[u
     true
 }
 
-// Whether the column agrees with column i + 1: that one sent what it would have sent, had it the same record.
+// Whether the column agrees with column i + 1: that one sent what it would have sent, had it the same record. `mine` are the values at the
+// own point, `me` is what the column would send itself.
 fn agreement_at(
     n: u8,
     m: u8,
     own: u8,
     bytes: [u8; 32],
     mine: [u16; 32],
+    me: &[u16],
     inbox: &[u16],
     i: u8,
 ) -> bool
-    requires { ⌜ (refusalOfSizes n m own ≡ 0) × (mine ≡ laid 32 (values n m bytes own)) × (i ≤ 30) ⌝ }
+    requires { ⌜ (refusalOfSizes n m own ≡ 0) × (mine ≡ laid 32 (values n m bytes own)) × (now me ≡ laid 64 (exchangeOf n m own bytes own)) × (i ≤ 30) ⌝ }
     ensures { λ r. ⌜ r ≡ agreementAt n m own bytes (now (inbox .entry)) i ⌝ }
 {
     if n <= i {
@@ -126,9 +128,8 @@ fn agreement_at(
     }
     let b = sizes::blocks(n, m) as u16;
     let theirs = codeword::values(n, m, bytes, i as u16 + 1);
-    let me = message(b, mine, mine);
     let expected = message(b, theirs, mine);
-    same_message(own, &me, 2 * b, inbox, i + 1, &expected)
+    same_message(own, me, 2 * b, inbox, i + 1, &expected)
 }
 
 // The flags of all columns.
@@ -137,10 +138,11 @@ fn flags(n: u8, m: u8, own: u8, bytes: [u8; 32], inbox: &[u16]) -> [bool; 31]
     ensures { λ r. ⌜ r ≡ agreementsOf n m own bytes (now (inbox .entry)) ⌝ }
 {
     let mine = codeword::values(n, m, bytes, own as u16);
+    let me = message(sizes::blocks(n, m) as u16, mine, mine);
     let mut all = [false; 31];
     for i in 0..31u8 {
         let at = i as usize;
-        all[at] = agreement_at(n, m, own, bytes, mine, inbox, i);
+        all[at] = agreement_at(n, m, own, bytes, mine, &me, inbox, i);
     }
     all
 }

@@ -17,7 +17,7 @@ blocks-requires : tie.Need-blocks-requires
 blocks-requires c κs = search needs
 
 cast-b : tie.Need-cast-b
-cast-b c = record { fits = omega (arith, c .blocks2 .ensures, blocks-le (c .before .before .before .args .n) (c .before .before .before .args .m)) }
+cast-b c = record { fits = omega (arith, c .blocks2 .ensures, blocks-le (c .before .before .before .before .args .n) (c .before .before .before .before .args .m)) }
 
 add-values : tie.Need-add-values
 add-values c = search needs
@@ -28,30 +28,22 @@ values-requires c κs = search needs
 message-requires : tie.Need-message-requires
 message-requires c κs = search needs
 
-message-requires-2 : tie.Need-message-requires-2
-message-requires-2 c κs = search needs
-
-slice-aggregate-same-message : tie.Need-slice-aggregate-same-message
-slice-aggregate-same-message c = search needs
-
 mul-same-message : tie.Need-mul-same-message
-mul-same-message c = record { fits = omega (arith, c .before .before .before .before .blocks2 .ensures, blocks-le (c .before .before .before .before .before .before .before .args .n) (c .before .before .before .before .before .before .before .args .m)) }
+mul-same-message c = record { fits = omega (arith, c .before .before .blocks2 .ensures, blocks-le (c .before .before .before .before .before .before .args .n) (c .before .before .before .before .before .before .args .m)) }
 
 add-same-message : tie.Need-add-same-message
 add-same-message c = search needs
 
-slice-aggregate-same-message-2 : tie.Need-slice-aggregate-same-message-2
-slice-aggregate-same-message-2 c = search needs
+slice-aggregate-same-message : tie.Need-slice-aggregate-same-message
+slice-aggregate-same-message c = search needs
 
 same-message-requires : tie.Need-same-message-requires
 same-message-requires c κs = search needs
 
 returns-2 : tie.Need-returns-2
-returns-2 c = let a = c .before .before .before .before .before .before .before .before .before .args in
-    let small = few-blocks (a .n) (a .m) (a .own) (c .before .before .before .before .before .before .before .before .before .pre .0) in
-    c .same-message .ensures ∙ agreement-is (a .n) (a .m) (a .own) (a .bytes) (a .inbox .now) (a .i) _ _ _ (c .before .before .before .before .before .before .before .before .before .pre .0) (omega arith) (c .before .before .before .before .before .before .blocks2 .ensures)
-    (c .before .before .before .before .message .ensures ∙ joined-exchange (a .n) (a .m) (a .bytes) small _ _ _ _ _ (c .before .before .before .before .before .before .blocks2 .ensures) (c .before .before .before .before .before .before .before .before .before .pre .1) (c .before .before .before .before .before .before .before .before .before .pre .1))
-    (c .before .before .before .message2 .ensures ∙ joined-exchange (a .n) (a .m) (a .bytes) small _ _ _ _ _ (c .before .before .before .before .before .before .blocks2 .ensures) (c .before .before .before .before .before .values .ensures) (c .before .before .before .before .before .before .before .before .before .pre .1))
+returns-2 c = let a = c .before .before .before .before .before .before .before .before .args in
+    c .same-message .ensures ∙ agreement-is (a .n) (a .m) (a .own) (a .bytes) (a .inbox .now) (a .i) _ _ _ (c .before .before .before .before .before .before .before .before .pre .0) (omega arith) (c .before .before .before .before .blocks2 .ensures) (c .before .before .before .before .before .before .before .before .pre .2)
+    (c .before .before .message .ensures ∙ joined-exchange (a .n) (a .m) (a .bytes) (few-blocks (a .n) (a .m) (a .own) (c .before .before .before .before .before .before .before .before .pre .0)) _ _ _ _ _ (c .before .before .before .before .blocks2 .ensures) (c .before .before .before .values .ensures) (c .before .before .before .before .before .before .before .before .pre .1))
 
 pub agreement-at-spec : {M : Type 1} → statement M
 agreement-at-spec =
@@ -63,10 +55,8 @@ agreement-at-spec =
     add-values
     values-requires
     message-requires
-    message-requires-2
-    slice-aggregate-same-message
     mul-same-message
     add-same-message
-    slice-aggregate-same-message-2
+    slice-aggregate-same-message
     same-message-requires
     returns-2)

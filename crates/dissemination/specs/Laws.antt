@@ -35,11 +35,6 @@ said-silenced false message k = blanks 32 k
     blanks (suc w) zero = refl
     blanks (suc w) (suc k) = blanks w k
 
-pub length-silenced : (speaks : Bool) (message : List ℕ) → length message ≤ 32 → length (spoken speaks message) ≤ 32
-unfolding spoken
-length-silenced true message h = h
-length-silenced false message h = omega arith
-
 -- READING POINTS
 
 -- place i of values, read as a point

@@ -37,14 +37,6 @@ bit-or-blank v = go (ltb v 2) refl
     go false e = inr refl
 
 -- whether a legal value was received can be asked of the value as it came
-pub same-point : (v x : ℕ) → x < 257 → eqb (readPoint v) x ≡ eqb v x
-unfolding readPoint
-same-point v x h = go (decLt v 257)
-  where
-    go : Dec (v < 257) → eqb (cond (ltb v 257) v blank) x ≡ eqb v x
-    go (yes l) = simp (lt-ltb v 257 l)
-    go (no l) = simp (le-ltb v 257 (omega arith), ne-eqb v x (omega arith), ne-eqb blank x (omega arith))
-
 pub same-report : (v : ℕ) → eqb (readReport v) 1 ≡ eqb v 1
 unfolding readReport
 same-report v = go (eqb v 1) refl
@@ -78,10 +70,6 @@ said-laid w message k h = go (decLt k w)
     go (no l) =
         List·getD-eq-default (listOf (said message) w) blank {n = k} (omega (arith, length-listOf (said message) w))
         ∙ sym (List·getD-eq-default message blank {n = k} (omega arith))
-
-pub length-laid : (w : ℕ) (message : List ℕ) → length (laid w message) ≡ w
-unfolding laid
-length-laid w message = length-listOf (said message) w
 
 pub written-fits : (w : ℕ) (message part : List ℕ) → w ≤ length part → written w message part ≡ listOf (said message) w ++ drop w part
 unfolding written laid

@@ -3,7 +3,6 @@
 pub mod decoding;
 pub mod points;
 
-use field::Field;
 ghost use mathlib.Core.Path.{_≡_};
 ghost use Rattle.lists.specs.Lists.{listOf};
 ghost use Rattle.dissemination.specs.Dissemination.{roundRefusal};

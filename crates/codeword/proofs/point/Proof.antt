@@ -1,13 +1,13 @@
 -- `point` meets its contract.
-use Rattle.field.specs.declared.Field.{Field}
 use mathlib.Core.Path.{ap, _∙_}
 use Prim.Native.Nat.{ℕ, _+_, _*_}
 use native.Mathlib.Nat.{mul-le-mul}
 use native.Mathlib.Omega.{arith}
+use borrow.Author.Needs.{needs}
+use Rattle.field.specs.declared.Field.{Field}
 use Rattle.block.specs.Block.{part, value}
 use Rattle.sizes.specs.Laws.{degree-le}
 use Rattle.codeword.specs.Codeword.{point}
-use borrow.Author.Needs.{needs}
 use Rattle.codeword.proofs.point.Statement.{statement}
 use Rattle.codeword.proofs.point.Tie as tie
 

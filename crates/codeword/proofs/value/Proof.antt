@@ -1,8 +1,8 @@
 -- `value` meets its contract.
 use mathlib.Core.Path.{sym, _∙_}
 use native.Mathlib.Omega.{arith}
-use Rattle.codeword.specs.Apart.{said-values, said-past}
 use borrow.Author.Needs.{needs}
+use Rattle.codeword.specs.Apart.{said-values, said-past}
 use Rattle.codeword.proofs.value.Statement.{statement}
 use Rattle.codeword.proofs.value.Tie as tie
 

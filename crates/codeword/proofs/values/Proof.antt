@@ -1,6 +1,6 @@
 -- `values` meets its contract.
-use native.Mathlib.Omega.{arith}
 use Prim.Native.Nat.{_-_}
+use native.Mathlib.Omega.{arith}
 use borrow.Author.Needs.{needs}
 use Rattle.lists.specs.Loops.{Filled, filled-none, filled-more, filled-done}
 use Rattle.messages.specs.Messages.{said, laid}

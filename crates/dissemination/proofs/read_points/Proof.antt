@@ -1,7 +1,7 @@
 -- `read_points` meets its contract.
 use mathlib.Core.Path.{ap, _∙_}
-use native.Mathlib.Omega.{arith}
 use Prim.Native.Nat.{_-_}
+use native.Mathlib.Omega.{arith}
 use borrow.Author.Needs.{needs}
 use Rattle.lists.specs.Loops.{Filled, filled-none, filled-more, filled-done}
 use Rattle.messages.specs.Messages.{readPoint}

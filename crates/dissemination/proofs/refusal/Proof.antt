@@ -1,9 +1,9 @@
 -- `refusal` meets its contract.
 use mathlib.Core.Path.{refl, _∙_}
 use native.Mathlib.Omega.{arith}
+use borrow.Author.Needs.{needs}
 use Rattle.sizes.specs.Laws.{blocks-le}
 use Rattle.dissemination.specs.Dissemination.{roundRefusal}
-use borrow.Author.Needs.{needs}
 use Rattle.dissemination.proofs.refusal.Statement.{statement}
 use Rattle.dissemination.proofs.refusal.Tie as tie
 

@@ -1,7 +1,7 @@
 -- `chosen` meets its contract.
 use borrow.Author.Tests.{le-leb, lt-leb}
-use Rattle.king.specs.King.{chosen}
 use borrow.Author.Needs.{needs}
+use Rattle.king.specs.King.{chosen}
 use Rattle.king.proofs.chosen.Statement.{statement}
 use Rattle.king.proofs.chosen.Tie as tie
 

@@ -3,9 +3,9 @@ use mathlib.Core.Path.{sym, _∙_}
 use mathlib.Core.Logic.{⊎-elim}
 use native.Mathlib.Omega.{arith}
 use borrow.Author.Tests.{eq-eqb, ne-eqb}
+use borrow.Author.Needs.{needs}
 use Rattle.messages.specs.Laws.{bit-or-blank}
 use Rattle.king.specs.King.{crowned}
-use borrow.Author.Needs.{needs}
 use Rattle.king.proofs.crowned.Statement.{statement}
 use Rattle.king.proofs.crowned.Tie as tie
 

@@ -1,8 +1,8 @@
 -- `firm` meets its contract.
 use native.Mathlib.Omega.{arith}
+use borrow.Author.Needs.{needs}
 use Rattle.sizes.specs.Laws.{faults-le}
 use Rattle.king.specs.King.{firm}
-use borrow.Author.Needs.{needs}
 use Rattle.king.proofs.firm.Statement.{statement}
 use Rattle.king.proofs.firm.Tie as tie
 

@@ -1,8 +1,8 @@
 -- `proposal` meets its contract.
 use native.Mathlib.Omega.{arith}
+use borrow.Author.Needs.{needs}
 use Rattle.sizes.specs.Laws.{faults-le}
 use Rattle.king.specs.King.{proposal}
-use borrow.Author.Needs.{needs}
 use Rattle.king.proofs.proposal.Statement.{statement}
 use Rattle.king.proofs.proposal.Tie as tie
 

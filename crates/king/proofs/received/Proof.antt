@@ -1,8 +1,8 @@
 -- `received` meets its contract.
 use mathlib.Core.Path.{sym, _∙_}
 use native.Mathlib.Omega.{arith}
-use Rattle.king.specs.Laws.{times-bits, times-none}
 use borrow.Author.Needs.{needs}
+use Rattle.king.specs.Laws.{times-bits, times-none}
 use Rattle.king.proofs.received.Statement.{statement}
 use Rattle.king.proofs.received.Tie as tie
 

@@ -1,12 +1,11 @@
 -- `settled` meets its contract.
-use Rattle.king.specs.King.{chosen}
-use native.Mathlib.Omega.{arith}
 use Prim.Native.Nat.{_+_}
+use native.Mathlib.Omega.{arith}
+use borrow.Author.Needs.{needs}
 use Rattle.sizes.specs.Laws.{faults-le}
 use Rattle.messages.specs.Messages.{from}
-use Rattle.king.specs.King.{settled}
+use Rattle.king.specs.King.{chosen, settled}
 use Rattle.king.specs.Laws.{chosen-lt}
-use borrow.Author.Needs.{needs}
 use Rattle.king.proofs.settled.Statement.{statement}
 use Rattle.king.proofs.settled.Tie as tie
 

@@ -1,12 +1,11 @@
 -- `heard` meets its contract.
 use mathlib.Core.Path.{_≡_, sym, ap, _∙_}
 use Prim.Native.Nat.{ℕ, _-_}
-use lib.ListN.{getD}
-use Rattle.messages.specs.Messages.{said}
-use Rattle.messages.specs.Laws.{heard-own, heard-other}
-use Rattle.messages.specs.Messages.{heard, said}
 use native.Mathlib.Omega.{arith}
 use borrow.Author.Needs.{needs}
+use lib.ListN.{getD}
+use Rattle.messages.specs.Messages.{said, heard}
+use Rattle.messages.specs.Laws.{heard-own, heard-other}
 use Rattle.messages.proofs.heard.Statement.{statement}
 use Rattle.messages.proofs.heard.Tie as tie
 

@@ -1,7 +1,7 @@
 -- `heard_from` meets its contract.
 use borrow.Author.Tests.{lt-ltb, le-ltb}
-use Rattle.messages.specs.Messages.{heardFrom}
 use borrow.Author.Needs.{needs}
+use Rattle.messages.specs.Messages.{heardFrom}
 use Rattle.messages.proofs.heard_from.Statement.{statement}
 use Rattle.messages.proofs.heard_from.Tie as tie
 

@@ -1,6 +1,6 @@
 -- `heard_of_all` meets its contract.
-use native.Mathlib.Omega.{arith}
 use Prim.Native.Nat.{_-_}
+use native.Mathlib.Omega.{arith}
 use Rattle.lists.specs.Loops.{Filled, filled-none, filled-more, filled-done}
 use Rattle.messages.specs.Messages.{heardFrom, heardOfAll}
 use Rattle.messages.proofs.heard_of_all.Statement.{statement}

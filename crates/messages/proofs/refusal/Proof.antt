@@ -1,9 +1,9 @@
 -- `refusal` meets its contract.
 use mathlib.Core.Path.{sym}
-use Rattle.messages.specs.Laws.{refused-before, refused-length, not-refused}
 use native.Mathlib.Omega.{arith}
-use Rattle.messages.specs.Messages.{refusal}
 use borrow.Author.Needs.{needs}
+use Rattle.messages.specs.Laws.{refused-before, refused-length, not-refused}
+use Rattle.messages.specs.Messages.{refusal}
 use Rattle.messages.proofs.refusal.Statement.{statement}
 use Rattle.messages.proofs.refusal.Tie as tie
 

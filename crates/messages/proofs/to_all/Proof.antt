@@ -1,11 +1,10 @@
 -- `to_all` meets its contract.
 use mathlib.Core.Path.{sym, ap, _∙_}
-use Rattle.messages.specs.Messages.{refusal}
 use Prim.Native.Nat.{ℕ, _-_}
 use native.Mathlib.Omega.{arith}
 use lib.ListN.{length}
 use Rattle.lists.specs.Loops.{Rowed, rowed-none, rowed-fits, rowed-more, rowed-room, rowed-done}
-use Rattle.messages.specs.Messages.{said, toAll, toAllRefusal}
+use Rattle.messages.specs.Messages.{refusal, said, toAll, toAllRefusal}
 use Rattle.messages.specs.Laws.{written-fits, accepted, if-refused, if-done}
 use Rattle.messages.proofs.to_all.Statement.{statement}
 use Rattle.messages.proofs.to_all.Tie as tie

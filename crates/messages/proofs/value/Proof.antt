@@ -1,9 +1,9 @@
 -- `value` meets its contract.
 use mathlib.Core.Path.{sym}
+use borrow.Author.Needs.{needs}
 use lib.ListN.{List·getD-eq-default}
 use Rattle.lists.specs.Entries.{getD-within}
 use Rattle.messages.specs.Messages.{said}
-use borrow.Author.Needs.{needs}
 use Rattle.messages.proofs.value.Statement.{statement}
 use Rattle.messages.proofs.value.Tie as tie
 

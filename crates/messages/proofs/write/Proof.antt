@@ -1,10 +1,10 @@
 -- `write` meets its contract.
 use mathlib.Core.Path.{sym, _∙_}
-use Rattle.messages.specs.Laws.{written-fits, not-written}
-use native.Mathlib.Omega.{arith}
 use Prim.Native.Nat.{_-_}
+use native.Mathlib.Omega.{arith}
 use borrow.Author.Tests.{le-leb, lt-leb}
 use Rattle.lists.specs.Loops.{Filled, filled-none, filled-more, filled-part}
+use Rattle.messages.specs.Laws.{written-fits, not-written}
 use Rattle.messages.specs.Messages.{said}
 use Rattle.messages.proofs.write.Statement.{statement}
 use Rattle.messages.proofs.write.Tie as tie

@@ -1,11 +1,11 @@
--- `exchange/agreement_at` meets its contract.
+-- `exchange::agreement_at` meets its contract.
 use mathlib.Core.Path.{_∙_}
-use borrow.Author.Tests.{le-ltb}
 use native.Mathlib.Omega.{arith}
+use borrow.Author.Tests.{le-ltb}
+use borrow.Author.Needs.{needs}
 use Rattle.sizes.specs.Laws.{blocks-le}
 use Rattle.dispersal.specs.Dispersal.{agreementAt}
 use Rattle.dispersal.specs.Laws.{few-blocks, joined-exchange, agreement-is}
-use borrow.Author.Needs.{needs}
 use Rattle.dispersal.proofs.exchange.agreement_at.Statement.{statement}
 use Rattle.dispersal.proofs.exchange.agreement_at.Tie as tie
 

@@ -1,7 +1,7 @@
--- `exchange/agreements` meets its contract.
+-- `exchange::agreements` meets its contract.
 use mathlib.Core.Path.{sym, _∙_}
-use Rattle.dispersal.specs.Laws.{exchange-accepted, agreed-refused, agreed-done}
 use borrow.Author.Needs.{needs}
+use Rattle.dispersal.specs.Laws.{exchange-accepted, agreed-refused, agreed-done}
 use Rattle.dispersal.proofs.exchange.agreements.Statement.{statement}
 use Rattle.dispersal.proofs.exchange.agreements.Tie as tie
 

@@ -1,6 +1,6 @@
--- `exchange/message` meets its contract.
-use native.Mathlib.Omega.{arith}
+-- `exchange::message` meets its contract.
 use Prim.Native.Nat.{_-_}
+use native.Mathlib.Omega.{arith}
 use borrow.Author.Needs.{needs}
 use Rattle.lists.specs.Loops.{Filled, filled-none, filled-more, filled-done}
 use Rattle.dispersal.specs.Laws.{joined}

@@ -1,8 +1,8 @@
--- `exchange/message_value` meets its contract.
+-- `exchange::message_value` meets its contract.
 use mathlib.Core.Path.{_∙_}
 use borrow.Author.Tests.{lt-ltb, le-ltb}
-use Rattle.dispersal.specs.Laws.{joined}
 use borrow.Author.Needs.{needs}
+use Rattle.dispersal.specs.Laws.{joined}
 use Rattle.dispersal.proofs.exchange.message_value.Statement.{statement}
 use Rattle.dispersal.proofs.exchange.message_value.Tie as tie
 

@@ -1,9 +1,9 @@
--- `exchange/refusal` meets its contract.
+-- `exchange::refusal` meets its contract.
 use mathlib.Core.Path.{refl, _∙_}
 use native.Mathlib.Omega.{arith}
+use borrow.Author.Needs.{needs}
 use Rattle.sizes.specs.Laws.{blocks-le}
 use Rattle.dispersal.specs.Dispersal.{exchangeRefusal}
-use borrow.Author.Needs.{needs}
 use Rattle.dispersal.proofs.exchange.refusal.Statement.{statement}
 use Rattle.dispersal.proofs.exchange.refusal.Tie as tie
 

@@ -1,6 +1,6 @@
--- `exchange/same_message` meets its contract.
-use native.Mathlib.Omega.{arith}
+-- `exchange::same_message` meets its contract.
 use Prim.Native.Nat.{_-_}
+use native.Mathlib.Omega.{arith}
 use Rattle.lists.specs.Loops.{Checked, checked-none, checked-more, checked-fails, checked-done}
 use Rattle.messages.specs.Messages.{heard}
 use Rattle.dispersal.specs.Laws.{sameIn}

@@ -1,6 +1,6 @@
--- `exchange/same_value` meets its contract.
-use Rattle.dispersal.specs.Laws.{sameIn}
+-- `exchange::same_value` meets its contract.
 use borrow.Author.Needs.{needs}
+use Rattle.dispersal.specs.Laws.{sameIn}
 use Rattle.dispersal.proofs.exchange.same_value.Statement.{statement}
 use Rattle.dispersal.proofs.exchange.same_value.Tie as tie
 

@@ -1,8 +1,8 @@
--- `exchange/send` meets its contract.
+-- `exchange::send` meets its contract.
 use mathlib.Core.Path.{sym, _∙_}
+use borrow.Author.Needs.{needs}
 use Rattle.messages.specs.Laws.{if-refused, if-done}
 use Rattle.dispersal.specs.Laws.{exchange-accepted}
-use borrow.Author.Needs.{needs}
 use Rattle.dispersal.proofs.exchange.send.Statement.{statement}
 use Rattle.dispersal.proofs.exchange.send.Tie as tie
 

@@ -1,4 +1,4 @@
--- `exchange/send_all` meets its contract.
+-- `exchange::send_all` meets its contract.
 use Prim.Native.Nat.{_-_, _*_}
 use native.Mathlib.Omega.{arith}
 use Rattle.lists.specs.Loops.{Rowed, rowed-none, rowed-fits, rowed-more, rowed-room, rowed-done}

@@ -1,14 +1,14 @@
--- `exchange/send_one` meets its contract.
-use Rattle.messages.specs.Messages.{said}
+-- `exchange::send_one` meets its contract.
 use mathlib.Core.Path.{ap, _∙_}
-use Prim.Native.Nat.{ℕ, _+_}
 use mathlib.Core.List.{List}
+use Prim.Native.Nat.{ℕ, _+_}
 use native.Mathlib.Omega.{arith}
+use borrow.Author.Needs.{needs}
 use Rattle.sizes.specs.Laws.{blocks-le}
+use Rattle.messages.specs.Messages.{said}
 use Rattle.messages.specs.Laws.{said-laid, written-as}
 use Rattle.dispersal.specs.Dispersal.{exchange}
 use Rattle.dispersal.specs.Laws.{few-blocks, joined-exchange, length-exchange}
-use borrow.Author.Needs.{needs}
 use Rattle.dispersal.proofs.exchange.send_one.Statement.{statement}
 use Rattle.dispersal.proofs.exchange.send_one.Tie as tie
 

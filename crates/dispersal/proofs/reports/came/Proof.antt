@@ -1,9 +1,9 @@
--- `reports/came` meets its contract.
+-- `reports::came` meets its contract.
 use mathlib.Core.Path.{refl}
 use borrow.Author.Tests.{lt-ltb, le-ltb}
+use borrow.Author.Needs.{needs}
 use Rattle.messages.specs.Laws.{from-place}
 use Rattle.dispersal.specs.Dispersal.{reportAt}
-use borrow.Author.Needs.{needs}
 use Rattle.dispersal.proofs.reports.came.Statement.{statement}
 use Rattle.dispersal.proofs.reports.came.Tie as tie
 

@@ -1,11 +1,11 @@
--- `reports/first` meets its contract.
+-- `reports::first` meets its contract.
 use mathlib.Core.Path.{_∙_}
 use native.Mathlib.Omega.{arith}
 use borrow.Author.Tests.{le-leb, lt-leb}
+use borrow.Author.Needs.{needs}
 use Rattle.sizes.specs.Laws.{faults-le}
 use Rattle.dispersal.specs.Dispersal.{firstQuorum, firstReport}
 use Rattle.dispersal.specs.Laws.{both-self}
-use borrow.Author.Needs.{needs}
 use Rattle.dispersal.proofs.reports.first.Statement.{statement}
 use Rattle.dispersal.proofs.reports.first.Tie as tie
 

@@ -1,8 +1,8 @@
--- `reports/flag` meets its contract.
+-- `reports::flag` meets its contract.
 use mathlib.Core.Path.{sym}
 use mathlib.Core.Bool.{false}
-use lib.ListN.{List·getD-eq-default}
 use borrow.Author.Needs.{needs}
+use lib.ListN.{List·getD-eq-default}
 use Rattle.dispersal.proofs.reports.flag.Statement.{statement}
 use Rattle.dispersal.proofs.reports.flag.Tie as tie
 

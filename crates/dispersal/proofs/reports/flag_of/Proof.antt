@@ -1,11 +1,11 @@
--- `reports/flag_of` meets its contract.
+-- `reports::flag_of` meets its contract.
 use mathlib.Core.Path.{ap, _∙_}
 use mathlib.Core.Bool.{false}
 use Prim.Native.Nat.{ℕ}
 use native.Mathlib.Omega.{arith}
+use borrow.Author.Needs.{needs}
 use lib.ListN.{getD}
 use Rattle.dispersal.specs.Dispersal.{reported}
-use borrow.Author.Needs.{needs}
 use Rattle.dispersal.proofs.reports.flag_of.Statement.{statement}
 use Rattle.dispersal.proofs.reports.flag_of.Tie as tie
 

@@ -1,14 +1,14 @@
--- `reports/grade` meets its contract.
+-- `reports::grade` meets its contract.
 use mathlib.Core.Path.{sym, _∙_}
 use Prim.Native.Nat.{_+_, _*_}
 use native.Mathlib.Omega.{arith}
 use borrow.Author.Tests.{not-true, not-false, le-leb, lt-leb}
-use Rattle.messages.specs.Messages.{from, times}
+use borrow.Author.Needs.{needs}
 use Rattle.sizes.specs.Sizes.{faults}
 use Rattle.sizes.specs.Laws.{faults-le}
+use Rattle.messages.specs.Messages.{from, times}
 use Rattle.dispersal.specs.Dispersal.{reportsOf, grade}
 use Rattle.dispersal.specs.Laws.{times-reports}
-use borrow.Author.Needs.{needs}
 use Rattle.dispersal.proofs.reports.grade.Statement.{statement}
 use Rattle.dispersal.proofs.reports.grade.Tie as tie
 

@@ -1,4 +1,4 @@
--- `reports/in_both` meets its contract.
+-- `reports::in_both` meets its contract.
 use mathlib.Core.Path.{sym, ap, ap₂, _∙_}
 use mathlib.Core.Bool.{Bool, _&&_}
 use Prim.Native.Nat.{_-_}

@@ -1,7 +1,7 @@
--- `reports/second` meets its contract.
+-- `reports::second` meets its contract.
 use mathlib.Core.Path.{sym, _∙_}
-use Rattle.dispersal.specs.Dispersal.{secondReport}
 use borrow.Author.Needs.{needs}
+use Rattle.dispersal.specs.Dispersal.{secondReport}
 use Rattle.dispersal.proofs.reports.second.Statement.{statement}
 use Rattle.dispersal.proofs.reports.second.Tie as tie
 

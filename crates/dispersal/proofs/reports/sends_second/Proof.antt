@@ -1,10 +1,10 @@
--- `reports/sends_second` meets its contract.
+-- `reports::sends_second` meets its contract.
 use mathlib.Core.Path.{_∙_}
 use native.Mathlib.Omega.{arith}
 use borrow.Author.Tests.{le-leb, lt-leb}
+use borrow.Author.Needs.{needs}
 use Rattle.sizes.specs.Laws.{faults-le}
 use Rattle.dispersal.specs.Dispersal.{secondQuorum}
-use borrow.Author.Needs.{needs}
 use Rattle.dispersal.proofs.reports.sends_second.Statement.{statement}
 use Rattle.dispersal.proofs.reports.sends_second.Tie as tie
 

@@ -1,4 +1,4 @@
--- `decoding/are_bytes` meets its contract.
+-- `decoding::are_bytes` meets its contract.
 use mathlib.Core.Path.{ap, _∙_}
 use Prim.Native.Nat.{ℕ, _+_, _-_}
 use native.Mathlib.Omega.{arith}

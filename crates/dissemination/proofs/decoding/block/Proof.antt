@@ -1,17 +1,15 @@
--- `decoding/block` meets its contract.
-use mathlib.Core.Path.{sym}
-use lib.ListN.{length}
-use lib.Seq.{length-take-le}
-use Rattle.lists.specs.Entries.{length-listOf}
-use mathlib.Core.Path.{ap, _∙_}
+-- `decoding::block` meets its contract.
+use mathlib.Core.Path.{sym, ap, _∙_}
 use mathlib.Core.List.{List}
 use Prim.Native.Nat.{ℕ}
 use native.Mathlib.Omega.{arith}
-use lib.ListN.{take}
+use borrow.Author.Needs.{needs}
+use lib.ListN.{length, take}
+use lib.Seq.{length-take-le}
+use Rattle.lists.specs.Entries.{length-listOf}
 use Rattle.lists.specs.Lists.{listOf}
 use Rattle.decoder.specs.Decoder.{decoded}
 use Rattle.dissemination.specs.Laws.{readAt, points-taken}
-use borrow.Author.Needs.{needs}
 use Rattle.dissemination.proofs.decoding.block.Statement.{statement}
 use Rattle.dissemination.proofs.decoding.block.Tie as tie
 

@@ -1,12 +1,11 @@
--- `decoding/byte_at` meets its contract.
-use native.Mathlib.Nat.{div-le-self}
+-- `decoding::byte_at` meets its contract.
 use mathlib.Core.Path.{ap, _∙_}
 use Prim.Native.Nat.{ℕ, _%_}
+use native.Mathlib.Nat.{div-le-self, mod-lt}
 use native.Mathlib.Omega.{arith}
-use native.Mathlib.Nat.{mod-lt}
 use borrow.Author.Tests.{lt-ltb, le-ltb}
-use Rattle.dissemination.specs.Decoding.{storedByte}
 use borrow.Author.Needs.{needs}
+use Rattle.dissemination.specs.Decoding.{storedByte}
 use Rattle.dissemination.proofs.decoding.byte_at.Statement.{statement}
 use Rattle.dissemination.proofs.decoding.byte_at.Tie as tie
 

@@ -1,9 +1,9 @@
--- `decoding/coefficient` meets its contract.
+-- `decoding::coefficient` meets its contract.
 use mathlib.Core.Path.{sym}
 use native.Mathlib.Omega.{arith}
+use borrow.Author.Needs.{needs}
 use lib.ListN.{List·getD-eq-default}
 use Rattle.decoder.specs.Decoder.{four}
-use borrow.Author.Needs.{needs}
 use Rattle.dissemination.proofs.decoding.coefficient.Statement.{statement}
 use Rattle.dissemination.proofs.decoding.coefficient.Tie as tie
 

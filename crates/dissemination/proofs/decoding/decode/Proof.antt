@@ -1,12 +1,11 @@
--- `decoding/decode` meets its contract.
-use Rattle.dissemination.specs.Decoding.{decodes-told}
+-- `decoding::decode` meets its contract.
 use mathlib.Core.Path.{sym, _∙_}
 use native.Mathlib.Omega.{arith}
 use borrow.Author.Tests.{not-true, not-false}
-use Rattle.sizes.specs.Laws.{degree-le}
-use Rattle.dissemination.specs.Laws.{round-accepted}
-use Rattle.dissemination.specs.Decoding.{disseminated-refused, disseminated-none, disseminated-some}
 use borrow.Author.Needs.{needs}
+use Rattle.sizes.specs.Laws.{degree-le}
+use Rattle.dissemination.specs.Decoding.{decodes-told, disseminated-refused, disseminated-none, disseminated-some}
+use Rattle.dissemination.specs.Laws.{round-accepted}
 use Rattle.dissemination.proofs.decoding.decode.Statement.{statement}
 use Rattle.dissemination.proofs.decoding.decode.Tie as tie
 

@@ -1,25 +1,24 @@
--- `decoding/decode_blocks` meets its contract.
+-- `decoding::decode_blocks` meets its contract.
 use mathlib.Core.Option.{none}
-use Rattle.decoder.specs.declared.Decoded.{Decoded}
-use Rattle.decoder.specs.declared.Decoded.the-variants.{Polynomial, Nothing, Refused}
-use Rattle.decoder.specs.Decoder.{polynomialOf}
 use mathlib.Core.Path.{_≡_, refl, sym, _∙_}
 use mathlib.Core.List.{[], _∷_}
 use mathlib.Core.Logic.{inl, inr}
-use types.Run.{OneOf}
-use denote.Enum.Declared.{tagOf}
-use Rattle.decoder.proofs.Decoded.{the-type}
+use Prim.Native.Nat.{ℕ, _+_, _-_}
 use native.Mathlib.Nat.{mul-le-mul}
 use native.Mathlib.Omega.{arith}
+use types.Run.{OneOf}
+use denote.Enum.Declared.{tagOf}
 use borrow.Author.Needs.{needs}
 use borrow.Author.Tests.{not-true}
 use Rattle.sizes.specs.Laws.{accepted, blocks-le, degree-le}
-use Rattle.dissemination.specs.Laws.{few-blocks}
-use Rattle.dissemination.specs.Decoding.{answerIn, block-missing, block-bytes, done-none, done-more, decodes-none, decodes-all}
 use Rattle.sizes.specs.Sizes.{blocks, degree}
+use Rattle.decoder.specs.declared.Decoded.{Decoded}
+use Rattle.decoder.specs.declared.Decoded.the-variants.{Polynomial, Nothing, Refused}
+use Rattle.decoder.specs.Decoder.{polynomialOf}
+use Rattle.decoder.proofs.Decoded.{the-type}
+use Rattle.dissemination.specs.Laws.{few-blocks}
+use Rattle.dissemination.specs.Decoding.{answerIn, block-missing, block-bytes, done-none, done-more, decodes-none, decodes-all, Done}
 use Rattle.dissemination.specs.Dissemination.{pointsIn}
-use Rattle.dissemination.specs.Decoding.{Done}
-use Prim.Native.Nat.{ℕ, _+_, _-_}
 use Rattle.dissemination.proofs.decoding.decode_blocks.Statement.{statement}
 use Rattle.dissemination.proofs.decoding.decode_blocks.Tie as tie
 

@@ -1,6 +1,6 @@
--- `decoding/is_byte` meets its contract.
-use borrow.Author.Tests.{lt-ltb, le-ltb}
+-- `decoding::is_byte` meets its contract.
 use native.Mathlib.Omega.{arith}
+use borrow.Author.Tests.{lt-ltb, le-ltb}
 use Rattle.dissemination.specs.Decoding.{isByteAt}
 use Rattle.dissemination.proofs.decoding.is_byte.Statement.{statement}
 use Rattle.dissemination.proofs.decoding.is_byte.Tie as tie

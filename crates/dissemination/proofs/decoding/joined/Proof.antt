@@ -1,6 +1,6 @@
--- `decoding/joined` meets its contract.
-use native.Mathlib.Omega.{arith}
+-- `decoding::joined` meets its contract.
 use Prim.Native.Nat.{_-_}
+use native.Mathlib.Omega.{arith}
 use Rattle.lists.specs.Loops.{Filled, filled-none, filled-more, filled-done}
 use Rattle.dissemination.specs.Decoding.{storedByte}
 use Rattle.dissemination.proofs.decoding.joined.Statement.{statement}

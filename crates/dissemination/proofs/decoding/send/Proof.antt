@@ -1,18 +1,16 @@
--- `decoding/send` meets its contract.
-use Rattle.dissemination.specs.Dissemination.{spoken}
-use Rattle.sizes.specs.Sizes.{blocks}
-use Rattle.messages.specs.Messages.{toAllRefusal}
-use lib.ListN.{length}
-use Rattle.dissemination.specs.Laws.{columns-too}
+-- `decoding::send` meets its contract.
 use mathlib.Core.Path.{_≡_, sym, ap, _∙_}
 use mathlib.Core.List.{List}
 use Prim.Native.Nat.{ℕ}
 use native.Mathlib.Omega.{arith}
-use Rattle.sizes.specs.Laws.{blocks-le}
-use Rattle.messages.specs.Messages.{said}
-use Rattle.messages.specs.Laws.{if-refused, if-done, to-all-accepted, toAll-same}
-use Rattle.dissemination.specs.Laws.{round-accepted, said-silenced}
 use borrow.Author.Needs.{needs}
+use lib.ListN.{length}
+use Rattle.sizes.specs.Sizes.{blocks}
+use Rattle.sizes.specs.Laws.{blocks-le}
+use Rattle.messages.specs.Messages.{toAllRefusal, said}
+use Rattle.messages.specs.Laws.{if-refused, if-done, to-all-accepted, toAll-same}
+use Rattle.dissemination.specs.Dissemination.{spoken}
+use Rattle.dissemination.specs.Laws.{columns-too, round-accepted, said-silenced}
 use Rattle.dissemination.proofs.decoding.send.Statement.{statement}
 use Rattle.dissemination.proofs.decoding.send.Tie as tie
 

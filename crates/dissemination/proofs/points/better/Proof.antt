@@ -1,12 +1,12 @@
--- `points/better` meets its contract.
-use borrow.Author.Tests.{lt-ltb, le-ltb, le-leb, lt-leb}
-use native.Mathlib.Omega.{arith}
+-- `points::better` meets its contract.
 use Prim.Native.Nat.{_+_}
+use native.Mathlib.Omega.{arith}
+use borrow.Author.Tests.{lt-ltb, le-ltb, le-leb, lt-leb}
+use borrow.Author.Needs.{needs}
 use Rattle.sizes.specs.Sizes.{faults}
 use Rattle.messages.specs.Messages.{from, times}
 use Rattle.dissemination.specs.Dissemination.{often}
 use Rattle.dissemination.specs.Kept.{better}
-use borrow.Author.Needs.{needs}
 use Rattle.dissemination.proofs.points.better.Statement.{statement}
 use Rattle.dissemination.proofs.points.better.Tie as tie
 

@@ -1,7 +1,7 @@
--- `points/kept` meets its contract.
+-- `points::kept` meets its contract.
 use mathlib.Core.Path.{sym, _∙_}
-use Rattle.dissemination.specs.Laws.{round-accepted, kept-refused, kept-done}
 use borrow.Author.Needs.{needs}
+use Rattle.dissemination.specs.Laws.{round-accepted, kept-refused, kept-done}
 use Rattle.dissemination.proofs.points.kept.Statement.{statement}
 use Rattle.dissemination.proofs.points.kept.Tie as tie
 

@@ -1,16 +1,16 @@
--- `points/kept_at` meets its contract.
+-- `points::kept_at` meets its contract.
 use mathlib.Core.Path.{ap, _∙_}
 use mathlib.Core.List.{List}
 use Prim.Native.Nat.{ℕ}
 use native.Mathlib.Omega.{arith}
 use borrow.Author.Tests.{le-ltb}
+use borrow.Author.Needs.{needs}
 use Rattle.lists.specs.Lists.{listOf}
 use Rattle.sizes.specs.Sizes.{blocks}
 use Rattle.sizes.specs.Laws.{blocks-le}
 use Rattle.messages.specs.Messages.{from}
 use Rattle.dissemination.specs.Dissemination.{keptPoint, keptAt}
 use Rattle.dissemination.specs.Laws.{readAt, kept-at}
-use borrow.Author.Needs.{needs}
 use Rattle.dissemination.proofs.points.kept_at.Statement.{statement}
 use Rattle.dissemination.proofs.points.kept_at.Tie as tie
 

@@ -1,4 +1,4 @@
--- `points/kept_point` meets its contract.
+-- `points::kept_point` meets its contract.
 use mathlib.Core.Path.{sym, ap, _∙_}
 use Prim.Native.Nat.{ℕ, _-_}
 use native.Mathlib.Omega.{arith}

@@ -1,4 +1,4 @@
--- `points/kept_points` meets its contract.
+-- `points::kept_points` meets its contract.
 use mathlib.Core.Path.{ap, _∙_}
 use mathlib.Core.List.{List}
 use Prim.Native.Nat.{ℕ, _-_}

@@ -1,8 +1,8 @@
--- `points/send` meets its contract.
+-- `points::send` meets its contract.
 use mathlib.Core.Path.{sym, _∙_}
+use borrow.Author.Needs.{needs}
 use Rattle.messages.specs.Laws.{if-refused, if-done}
 use Rattle.dissemination.specs.Laws.{round-accepted}
-use borrow.Author.Needs.{needs}
 use Rattle.dissemination.proofs.points.send.Statement.{statement}
 use Rattle.dissemination.proofs.points.send.Tie as tie
 

@@ -21,7 +21,8 @@ use Rattle.block.specs.Algebra.{product, value-product, length-product, same-va
 use Rattle.sizes.specs.Sizes.{faults, degree}
 use Rattle.locator.specs.Locator.{located}
 use Rattle.locator.specs.Located.{Locates, present, locates}
-use Rattle.decoder.specs.Decoder.{at, meetsAt, hits, IsAnswer, through, coefficients, decoded, four}
+use Rattle.messages.specs.Messages.{said, from as at}
+use Rattle.decoder.specs.Decoder.{meetsAt, hits, IsAnswer, through, coefficients, decoded, four}
 use Rattle.decoder.specs.Interpolation.{Rising, On, map-on, through-on, through-length, through-below}
 use Rattle.decoder.specs.Exactly.{Accepts, sizes, is-answer, no-answer}
 use Rattle.decoder.specs.Places.{presentAt, usable, Chain, chain-take, Chosen, chain-chosen}
@@ -82,6 +83,7 @@ module _ (n : ℕ) (points : List ℕ) (a : Accepts n points) where
 
   module _ (es : List ℕ) (loc : Locates n (faults n) points es) (f : List ℕ) (i : IsAnswer n points f) where
     fits : (x : ℕ) → 1 ≤ x → x ≤ n → at points x < 257 → value (loc .q) x ≋ at points x * value (loc .e) x
+    unfolding at said
     fits x l u h =
         let e : x - 1 + 1 ≡ x = omega arith in
         rw e at (loc .fits (x - 1) (omega arith) h)
@@ -120,6 +122,7 @@ module _ (n : ℕ) (points : List ℕ) (a : Accepts n points) where
         rw e at (loc .e-values (x - 1) (omega arith))
 
     agrees : (x : ℕ) → 1 ≤ x → T (usable points es x) → at points x ≡ value f x
+    unfolding at said
     agrees x l t =
         let h : at points x < 257 = ltb→lt (at points x) 257 (and-left (ltb (at points x) 257) (not (eqb (getD es (x - 1) 0) 0)) t) in
         let u : x ≤ n = omega (arith, present points (x - 1) h, a .full) in

@@ -9,16 +9,13 @@ use mathlib.Core.Path.{_≡_}
 use Rattle.lists.specs.Lists.{count, Below}
 use Rattle.field.specs.Field.{of, subtract, multiply, inverse, blank}
 use Rattle.block.specs.Block.{value}
+use Rattle.messages.specs.Messages.{from as at}
 use Rattle.sizes.specs.Sizes.{faults, degree, refusal}
 use Rattle.decoder.specs.declared.Coefficients.{Coefficients}
 use Rattle.decoder.specs.declared.Decoded.{Decoded}
 use Rattle.decoder.specs.declared.Decoded.the-variants.{Polynomial, Nothing, Refused}
 
--- the point at place x, counted from 1; blank past the end
-abbrev pub at : List ℕ → ℕ → ℕ
-at points x = getD points (x - 1) blank
-
--- the polynomial f meets y at x. "A blank meets none": a value is below 257, and a blank is not
+-- the points lie by place, counted from 1, as messages by column number (`at`). The polynomial f meets y at x. "A blank meets none": a value is below 257, and a blank is not
 abbrev pub meetsAt : List ℕ → (ℕ → ℕ) → ℕ → Bool
 meetsAt f y x = eqb (value f x) (y x)
 

@@ -13,7 +13,8 @@ use Rattle.block.specs.Block.{value}
 use Rattle.block.specs.Value.{value-lt}
 use Rattle.sizes.specs.Sizes.{faults, degree, refusal}
 use Rattle.sizes.specs.Laws.{Sized, accepted as sizes-accepted, columns-sized, columns-accepted, columns-refused}
-use Rattle.decoder.specs.Decoder.{at, meetsAt, IsAnswer, found, coefficients, answerOf, decoded, refusalOf, four, polynomialOf}
+use Rattle.messages.specs.Messages.{from as at}
+use Rattle.decoder.specs.Decoder.{meetsAt, IsAnswer, found, coefficients, answerOf, decoded, refusalOf, four, polynomialOf}
 use Rattle.decoder.specs.Search.{seek-finds, seek-answers}
 use Rattle.decoder.specs.declared.Decoded.the-variants.{Polynomial, Nothing, Refused}
 

@@ -10,7 +10,7 @@ use lib.ListN.{length, getD, take}
 use Rattle.lists.specs.Lists.{count}
 use Rattle.lists.specs.Tests.{and-left, and-right, and-both, eq→eqb}
 use Rattle.lists.specs.Count.{none, cover, count-one}
-use Rattle.decoder.specs.Decoder.{at}
+use Rattle.messages.specs.Messages.{from as at}
 use Rattle.decoder.specs.Interpolation.{Rising}
 
 -- the point at place x is not blank

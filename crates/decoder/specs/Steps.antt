@@ -11,7 +11,8 @@ use lib.Dec.{T, T-not, ltb}
 use lib.ListN.{length, getD, take, length-take}
 use Rattle.lists.specs.Entries.{getD-within}
 use Rattle.field.specs.Field.{of, subtract, multiply, blank}
-use Rattle.decoder.specs.Decoder.{at, slope, slopes, under, through, coefficients}
+use Rattle.messages.specs.Messages.{from as at}
+use Rattle.decoder.specs.Decoder.{slope, slopes, under, through, coefficients}
 use Rattle.decoder.specs.Interpolation.{through-length}
 use Rattle.decoder.specs.Places.{Next}
 use Rattle.decoder.specs.declared.Coefficients.{Coefficients}
@@ -90,6 +91,7 @@ take-map f (suc k) (x ∷ xs) = ap {B = List ℕ} (λ l. f x ∷ l) (take-map f 
 
 -- what stands at index i is the point at place i + 1
 pub at-index : (points : List ℕ) (i : ℕ) → i < length points → getD points i 0 ≡ at points (i + 1)
+unfolding at
 at-index points i h =
     let e : i + 1 - 1 ≡ i = omega arith in
     rw e (getD-within points i 0 blank h)

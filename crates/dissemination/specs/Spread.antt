@@ -26,7 +26,8 @@ use Rattle.messages.specs.Wall.{Wall, Sound}
 use Rattle.messages.specs.Quorums.{enough, unheard}
 use Rattle.codeword.specs.Codeword.{Held, point}
 use Rattle.codeword.specs.Apart.{point-lt, said-values, byte-at}
-use Rattle.decoder.specs.Decoder.{at, meetsAt}
+use Rattle.messages.specs.Messages.{from as at}
+use Rattle.decoder.specs.Decoder.{meetsAt}
 use Rattle.decoder.specs.Exactly.{exactly}
 use Rattle.dissemination.specs.Dissemination.{spoken, points, often, keptPoint, pointAt, blockOf, there, coefficient, isByte, isBlock, byteAt, recordOf}
 use Rattle.dissemination.specs.Kept.{kept-is}
@@ -80,7 +81,7 @@ module _ (n m : ℕ) (r : List ℕ) (received : ℕ → ℕ → ℕ) (range : In
 
 pub block-is : {n : ℕ} {H : ℕ → Bool} → Wall n H → (r : List ℕ) → Below 256 r → (k : ℕ) (received : ℕ → ℕ)
     → ((j : ℕ) → Sound n H j → received j ≡ point n r j k) → blockOf n received ≡ some (block (degree n) r k)
-unfolding blockOf point pointAt
+unfolding blockOf point pointAt at
 block-is {n} {H} W r small k received h =
     exactly n (listOf (pointAt received) n) (record { low = W .low; high = W .high; full = length-listOf (pointAt received) n }) .finds (block (degree n) r k) .1
     (record {

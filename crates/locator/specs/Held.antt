@@ -14,7 +14,8 @@ use Rattle.lists.specs.Tests.{either-lt}
 use Rattle.lists.specs.Entries.{length-listOf, below-listOf}
 use Rattle.field.specs.Field.{subtract, multiply}
 use Rattle.locator.specs.declared.Weights.{Weights}
-use Rattle.locator.specs.Locator.{pointAt, discrepancy, Run, firstAt, secondAt, start, mixedAt, cleared, raisedAt, raised, leads, firstLeads, secondLeads, turn, run, lighter, located}
+use Rattle.messages.specs.Messages.{said as pointAt}
+use Rattle.locator.specs.Locator.{discrepancy, Run, firstAt, secondAt, start, mixedAt, cleared, raisedAt, raised, leads, firstLeads, secondLeads, turn, run, lighter, located}
 
 -- a run as the code holds it
 abbrev pub runOf : List ℕ → List ℕ → Weights → Run

@@ -17,7 +17,8 @@ use Rattle.lists.specs.Entries.{getD-listOf}
 use Rattle.field.specs.Field.{of, subtract, blank}
 use Rattle.field.specs.Congruence.{_≋_}
 use Rattle.block.specs.Block.{value}
-use Rattle.locator.specs.Locator.{pointAt, discrepancy, Run, firstAt, secondAt, start, firstLeads, secondLeads, turn, run, located}
+use Rattle.messages.specs.Messages.{said as pointAt}
+use Rattle.locator.specs.Locator.{discrepancy, Run, firstAt, secondAt, start, firstLeads, secondLeads, turn, run, located}
 use Rattle.locator.specs.Held.{held-first, held-second}
 use Rattle.locator.specs.Steps.{Pair, Apart, Free, raised-pair, cleared-pair, turned-apart}
 
@@ -87,6 +88,7 @@ start-good w n points =
 
 -- a point that is not blank stands in the list
 pub present : (points : List ℕ) (j : ℕ) → pointAt points j < 257 → j < length points
+unfolding pointAt
 present points j h = go (decLt j (length points))
   where
     go : Dec (j < length points) → j < length points

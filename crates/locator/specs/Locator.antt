@@ -9,10 +9,7 @@ use lib.Dec.{eqb, ltb, leb}
 use lib.ListN.{getD}
 use Rattle.lists.specs.Lists.{listOf}
 use Rattle.field.specs.Field.{add, subtract, multiply, blank}
-
--- the point at index i, place i + 1; blank past the end
-abbrev pub pointAt : List ℕ → ℕ → ℕ
-pointAt points i = getD points i blank
+use Rattle.messages.specs.Messages.{said as pointAt}
 
 -- the discrepancy of a pair at index i
 abbrev pub discrepancy : List ℕ → ℕ → ℕ

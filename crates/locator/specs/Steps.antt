@@ -16,7 +16,8 @@ use Rattle.block.specs.Block.{value}
 use Rattle.block.specs.Value.{value-lt}
 use Rattle.block.specs.Algebra.{sum, scale as scaled, raised as raisedBy, value-sum, value-scale, value-raised, length-sum, length-scale, length-raised, length-raised-none}
 use Rattle.locator.specs.Held.{held-cleared, held-raised}
-use Rattle.locator.specs.Locator.{pointAt, discrepancy, mixedAt, cleared, raisedAt, raised}
+use Rattle.messages.specs.Messages.{said as pointAt}
+use Rattle.locator.specs.Locator.{discrepancy, mixedAt, cleared, raisedAt, raised}
 
 -- ARITHMETIC
 

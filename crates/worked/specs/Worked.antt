@@ -6,6 +6,7 @@ use Rattle.field.specs.Field.{add, multiply, inverse, inverseBelow}
 use Rattle.block.specs.Block.{value}
 use Rattle.lists.specs.Lists.{count}
 use Rattle.sizes.specs.Sizes.{faults, degree, refusal, outside}
+use Rattle.messages.specs.Messages.{from}
 use Rattle.decoder.specs.Decoder.{decoded, found, seek, through, under, slopes, answerOf, coefficients}
 use Rattle.decoder.specs.declared.Decoded.the-variants.{Polynomial, Nothing}
 
@@ -42,7 +43,7 @@ pub record Worked : Type 0 where
   pub four-blank : decoded 10 (65535 ∷ 65535 ∷ 65535 ∷ 65535 ∷ 17 ∷ 20 ∷ 23 ∷ 26 ∷ 29 ∷ 32 ∷ []) ≡ Nothing
 
 pub worked : Worked
-unfolding faults degree refusal outside value inverse inverseBelow count decoded found seek through under slopes answerOf
+unfolding faults degree refusal outside value inverse inverseBelow count decoded found seek through under slopes answerOf from
 worked =
     record {
       sizes-of-4 = (refl, refl);

@@ -1,7 +1,7 @@
 -- `at_place` meets its contract.
 use mathlib.Core.Path.{_∙_}
 use borrow.Author.Needs.{needs}
-use Rattle.messages.specs.Messages.{said}
+use Rattle.messages.specs.Messages.{said, from as at}
 use Rattle.decoder.proofs.at_place.Statement.{statement}
 use Rattle.decoder.proofs.at_place.Tie as tie
 
@@ -9,7 +9,7 @@ value-requires : tie.Need-value-requires
 value-requires c κs = search needs
 
 returns : tie.Need-returns
-unfolding said
+unfolding said at
 returns c = c .value .ensures ∙ rw (c .before .if1 .taken)
 
 sub-value : tie.Need-sub-value
@@ -22,7 +22,7 @@ value-requires-2 : tie.Need-value-requires-2
 value-requires-2 c κs = search needs
 
 returns-2 : tie.Need-returns-2
-unfolding said
+unfolding said at
 returns-2 c = c .value2 .ensures
 
 pub at-place-spec : {M : Type 1} → statement M

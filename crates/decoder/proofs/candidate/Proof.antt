@@ -3,7 +3,8 @@ use mathlib.Core.Path.{refl, ap, _∙_}
 use mathlib.Core.List.{List}
 use Prim.Native.Nat.{ℕ}
 use lib.ListN.{take}
-use Rattle.decoder.specs.Decoder.{at, coefficients, through as throughOf}
+use Rattle.messages.specs.Messages.{from as at}
+use Rattle.decoder.specs.Decoder.{coefficients, through as throughOf}
 use Rattle.decoder.specs.Steps.{listed, take-map}
 use borrow.Author.Needs.{needs}
 use Rattle.decoder.proofs.candidate.Statement.{statement}

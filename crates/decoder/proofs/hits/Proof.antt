@@ -7,7 +7,8 @@ use lib.ListN.{getD}
 use Rattle.lists.specs.Lists.{bit}
 use Rattle.lists.specs.Loops.{Counted, counted-none, counted-more, counted-done, bit-most}
 use Rattle.block.specs.Block.{value}
-use Rattle.decoder.specs.Decoder.{at, meetsAt, four}
+use Rattle.messages.specs.Messages.{from as at}
+use Rattle.decoder.specs.Decoder.{meetsAt, four}
 use Rattle.decoder.specs.Steps.{at-index}
 use Rattle.decoder.proofs.hits.Statement.{statement}
 use Rattle.decoder.proofs.hits.Tie as tie

@@ -3,7 +3,6 @@ use mathlib.Core.Path.{sym, _∙_}
 use Prim.Native.Nat.{_-_}
 use native.Mathlib.Omega.{arith}
 use borrow.Author.Tests.{le-leb, lt-leb}
-use Rattle.messages.specs.Messages.{said}
 use Rattle.locator.specs.Held.{Running, running-none, running-more, running-held, running-done}
 use Rattle.locator.proofs.locate.Statement.{statement}
 use Rattle.locator.proofs.locate.Tie as tie
@@ -39,7 +38,6 @@ loop-less : tie.Need-loop-less Inv-loop μ-loop
 loop-less c = omega arith
 
 loop-again : tie.Need-loop-again Inv-loop μ-loop
-unfolding said
 loop-again c = running-more _ _ _ _ _ _ (c .before .before .before .before .before .loop .inv) _ _ _ _ (omega arith) (c .before .value .ensures) (c .turn .ensures)
 
 returns : tie.Need-returns Inv-loop μ-loop

@@ -4,7 +4,6 @@ use Prim.Native.Nat.{ℕ}
 use Rattle.field.specs.Field.{subtract}
 use Rattle.field.specs.declared.Field.{Field}
 use borrow.Author.Tests.{lt-ltb, le-ltb}
-use Rattle.messages.specs.Messages.{said}
 use Rattle.locator.specs.Locator.{secondAt}
 use borrow.Author.Needs.{needs}
 use Rattle.locator.proofs.second_at.Statement.{statement}
@@ -21,7 +20,7 @@ subtract-requires : tie.Need-subtract-requires
 subtract-requires c κs = search needs
 
 returns-2 : tie.Need-returns-2
-unfolding said secondAt
+unfolding secondAt
 returns-2 c =
     simp (le-ltb _ _ (c .before .before .if1 .left))
     (ap (λ (f : Field). f .0) (c .subtract .ensures) ∙ ap (λ (z : ℕ). subtract 0 z) (c .before .value .ensures))

@@ -16,7 +16,7 @@ use Rattle.messages.specs.Wall.{Wall, Sound}
 use Rattle.messages.specs.Quorums.{faults-few, degree-few}
 use Rattle.codeword.specs.Codeword.{meets}
 use Rattle.codeword.specs.Apart.{meets-refl, met, apart}
-use Rattle.dispersal.specs.Dispersal.{agrees, firstQuorum, firstReport, reported, both, secondQuorum, secondReport, reportsOf}
+use Rattle.dispersal.specs.Dispersal.{agrees, firstQuorum, firstReport, reported, both, secondQuorum, secondReport, readReports}
 use Rattle.dispersal.specs.Laws.{agrees-meets, report-read}
 use Rattle.dispersal.specs.Run.{Run}
 
@@ -54,8 +54,8 @@ module _ {n m : ℕ} {H : ℕ → Bool} {held : ℕ → List ℕ} {A R : ℕ →
   unfolding firstReport
   first-heard i j si sj = D .first i j si sj ∙ report-read (ok₁ j)
 
-  pub second-heard : (i j : ℕ) → Sound n H i → Sound n H j → eqb (reportsOf (S i) j) 1 ≡ ok₂ j
-  unfolding secondReport reportsOf
+  pub second-heard : (i j : ℕ) → Sound n H i → Sound n H j → eqb (readReports (S i) j) 1 ≡ ok₂ j
+  unfolding secondReport readReports
   second-heard i j si sj = ap (λ (v : ℕ). eqb (readReport v) 1) (D .second i j si sj) ∙ report-read (ok₂ j)
 
   quorum₁ : (i : ℕ) → T (ok₁ i) → n - faults n ≤ count (agrees (A i)) n
@@ -179,21 +179,21 @@ module _ {n m : ℕ} {H : ℕ → Bool} {held : ℕ → List ℕ} {A R : ℕ →
       go unmet i si ai (inr es) = absurd (unmet (rw (e, es) at (meet-here j i sj si ai)))
 
   -- 2t + 1 second reports came to a sound column, so t + 1 sound columns sent one
-  pub second-sent : (c : ℕ) → Sound n H c → 2 * faults n + 1 ≤ times (reportsOf (S c)) 1 n → suc (faults n) ≤ count (λ i. H i && ok₂ i) n
+  pub second-sent : (c : ℕ) → Sound n H c → 2 * faults n + 1 ≤ times (readReports (S c)) 1 n → suc (faults n) ≤ count (λ i. H i && ok₂ i) n
   unfolding times
   second-sent c sc g =
       omega (
         arith,
         W .few,
         g,
-        cover (λ i. eqb (reportsOf (S c) i) 1) (λ i. not (H i)) (λ i. H i && ok₂ i) n (λ i l u r h.
+        cover (λ i. eqb (readReports (S c) i) 1) (λ i. not (H i)) (λ i. H i && ok₂ i) n (λ i l u r h.
             let si : Sound n H i = (l, u, not-not (H i) h) in
             and-both (H i) (ok₂ i) (si .2) (rw (second-heard c i sc si) at r)),
       )
 
   -- CLAIM 3.6. Where no more than t sound columns held r, and no more than t held s, no sound column receives 2t + 1 second reports
   pub claim-3-6 : (r s : List ℕ) → count (at r s) n ≤ degree n → Camps r s → Camps s r → count (holds H held r) n ≤ faults n → count (holds H held s) n ≤ faults n
-      → (c : ℕ) → Sound n H c → 2 * faults n + 1 ≤ times (reportsOf (S c)) 1 n → ⊥
+      → (c : ℕ) → Sound n H c → 2 * faults n + 1 ≤ times (readReports (S c)) 1 n → ⊥
   unfolding Camps
   claim-3-6 r s few camps spmac small-r small-s c sc g =
       omega (

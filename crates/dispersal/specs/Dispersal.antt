@@ -76,16 +76,16 @@ unfoldable pub secondReport : ℕ → ℕ → (ℕ → Bool) → (ℕ → Bool) 
 secondReport n own A R = cond (secondQuorum n own A R) 1 blank
 
 -- the report that column j sent, or blank
-unfoldable pub reportsOf : (ℕ → ℕ) → ℕ → ℕ
-reportsOf received j = readReport (received j)
+unfoldable pub readReports : (ℕ → ℕ) → ℕ → ℕ
+readReports received j = readReport (received j)
 
 -- "Grade 2: i sent it and received at least 2t + 1 of them from any columns. Grade 1: sent, fewer received. Grade 0: not sent."
 unfoldable pub grade : ℕ → ℕ → (ℕ → Bool) → (ℕ → Bool) → (ℕ → ℕ) → ℕ
-grade n own A R received = cond (secondQuorum n own A R) (cond (leb (2 * faults n + 1) (times (reportsOf received) 1 n)) 2 1) 0
+grade n own A R received = cond (secondQuorum n own A R) (cond (leb (2 * faults n + 1) (times (readReports received) 1 n)) 2 1) 0
 
 -- THE CALLS ON SLICES, refused inputs included: 1, 2, 3 for the sizes and the number, 4 for a slice that does not hold 2B values a column
 
-unfoldable pub exchangeRefusal : ℕ → ℕ → ℕ → ℕ → ℕ
+abbrev pub exchangeRefusal : ℕ → ℕ → ℕ → ℕ → ℕ
 exchangeRefusal n m own len = refusal (refusalOfSizes n m own) n (2 * blocks n m) len
 
 unfoldable pub agreed : ℕ → ℕ → ℕ → List ℕ → List ℕ → Agreed

@@ -8,16 +8,16 @@ use Rattle.lists.specs.Lists.{count}
 use Rattle.field.specs.Field.{blank}
 use Rattle.sizes.specs.Sizes.{faults}
 use Rattle.messages.specs.Messages.{readReport, times}
-use Rattle.dispersal.specs.Dispersal.{both, secondQuorum, reportsOf, grade}
+use Rattle.dispersal.specs.Dispersal.{both, secondQuorum, readReports, grade}
 
 -- second reports from columns 1 to k alone, where all agree and sent a first report
 abbrev gradeOf : ℕ → ℕ
 gradeOf k = grade 6 1 (λ j. true) (λ j. true) (λ j. cond (leb j k) 1 blank)
 
 pub three-reports : gradeOf 3 ≡ 2
-unfolding grade secondQuorum both reportsOf readReport times count faults
+unfolding grade secondQuorum both readReports readReport times count faults
 three-reports = refl
 
 pub two-reports : gradeOf 2 ≡ 1
-unfolding grade secondQuorum both reportsOf readReport times count faults
+unfolding grade secondQuorum both readReports readReport times count faults
 two-reports = refl

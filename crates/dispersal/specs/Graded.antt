@@ -18,7 +18,7 @@ use Rattle.messages.specs.Wall.{Sound}
 use Rattle.messages.specs.Quorums.{faults-few, enough}
 use Rattle.codeword.specs.Codeword.{meets}
 use Rattle.codeword.specs.Apart.{meets-refl}
-use Rattle.dispersal.specs.Dispersal.{agrees, firstQuorum, reported, both, secondQuorum, reportsOf, grade}
+use Rattle.dispersal.specs.Dispersal.{agrees, firstQuorum, reported, both, secondQuorum, readReports, grade}
 use Rattle.dispersal.specs.Run.{Run, gradeOf, keeps, Graded}
 use Rattle.dispersal.specs.Claims.{holds, ok₁, ok₂, Camps, agreed, first-heard, second-heard, first-sent, second-sent, few-points, claim-3-4, claim-3-5, claim-3-6}
 
@@ -26,23 +26,23 @@ use Rattle.dispersal.specs.Claims.{holds, ok₁, ok₂, Camps, agreed, f
 
 module _ (n own : ℕ) (A R : ℕ → Bool) (received : ℕ → ℕ) where
   -- who leaves with grade 2 sent a second report and received 2t + 1
-  grade-two : grade n own A R received ≡ 2 → T (secondQuorum n own A R) × (2 * faults n + 1 ≤ times (reportsOf received) 1 n)
+  grade-two : grade n own A R received ≡ 2 → T (secondQuorum n own A R) × (2 * faults n + 1 ≤ times (readReports received) 1 n)
   unfolding grade
-  grade-two = go (secondQuorum n own A R) (leb (2 * faults n + 1) (times (reportsOf received) 1 n)) refl
+  grade-two = go (secondQuorum n own A R) (leb (2 * faults n + 1) (times (readReports received) 1 n)) refl
     where
-      go : (p q : Bool) → leb (2 * faults n + 1) (times (reportsOf received) 1 n) ≡ q → _≡_ {A = ℕ} (cond p (cond q 2 1) 0) 2 → T p × (2 * faults n + 1 ≤ times (reportsOf received) 1 n)
-      go true true e h = (tt, leb→le (2 * faults n + 1) (times (reportsOf received) 1 n) (rw e tt))
+      go : (p q : Bool) → leb (2 * faults n + 1) (times (readReports received) 1 n) ≡ q → _≡_ {A = ℕ} (cond p (cond q 2 1) 0) 2 → T p × (2 * faults n + 1 ≤ times (readReports received) 1 n)
+      go true true e h = (tt, leb→le (2 * faults n + 1) (times (readReports received) 1 n) (rw e tt))
       go true false e h = absurd (omega arith)
       go false q e h = absurd (omega arith)
 
-  is-two : T (secondQuorum n own A R) → 2 * faults n + 1 ≤ times (reportsOf received) 1 n → grade n own A R received ≡ 2
+  is-two : T (secondQuorum n own A R) → 2 * faults n + 1 ≤ times (readReports received) 1 n → grade n own A R received ≡ 2
   unfolding grade
-  is-two o l = rw (is-true (secondQuorum n own A R) o, le-leb (2 * faults n + 1) (times (reportsOf received) 1 n) l)
+  is-two o l = rw (is-true (secondQuorum n own A R) o, le-leb (2 * faults n + 1) (times (readReports received) 1 n) l)
 
   -- who sent one leaves with grade 1 or 2, who did not with grade 0
   at-least-one : T (secondQuorum n own A R) → T (leb 1 (grade n own A R received))
   unfolding grade
-  at-least-one o = rw (is-true (secondQuorum n own A R) o) (go (leb (2 * faults n + 1) (times (reportsOf received) 1 n)))
+  at-least-one o = rw (is-true (secondQuorum n own A R) o) (go (leb (2 * faults n + 1) (times (readReports received) 1 n)))
     where
       go : (q : Bool) → T (leb 1 (cond q 2 1))
       go true = tt
@@ -72,7 +72,7 @@ module _ {n m : ℕ} {H : ℕ → Bool} {held : ℕ → List ℕ} {A R : ℕ →
       pick false ep false eq = absurd (claim-3-4 D c b i sc sb si oc ob oi ne (differ (held c) ep) (differ (held b) eq))
 
   -- a sound column that received 2t + 1 second reports and sent one, and a sound one that sent one: they held one record
-  one-camp : (c b : ℕ) → Sound n H c → Sound n H b → T (ok₂ D c) → 2 * faults n + 1 ≤ times (reportsOf (S c)) 1 n → T (ok₂ D b) → (held c ≡ held b → ⊥) → ⊥
+  one-camp : (c b : ℕ) → Sound n H c → Sound n H b → T (ok₂ D c) → 2 * faults n + 1 ≤ times (readReports (S c)) 1 n → T (ok₂ D b) → (held c ≡ held b → ⊥) → ⊥
   unfolding Camps
   one-camp c b sc sb oc l ob ne =
       go (decLe (suc (faults n)) (count (holds H held (held c)) n)) (decLe (suc (faults n)) (count (holds H held (held b)) n))
@@ -88,7 +88,7 @@ module _ {n m : ℕ} {H : ℕ → Bool} {held : ℕ → List ℕ} {A R : ℕ →
       go (no p) (yes q) = claim-3-5 D (held b) (held c) (few-points D b c sb sc (λ e. ne (sym e))) spmac q c sc refl oc
       go (no p) (no q) = claim-3-6 D (held c) (held b) (few-points D c b sc sb ne) camps spmac (omega arith) (omega arith) c sc l
 
-  pub one-record : (c b : ℕ) → Sound n H c → Sound n H b → T (ok₂ D c) → 2 * faults n + 1 ≤ times (reportsOf (S c)) 1 n → T (ok₂ D b) → held b ≡ held c
+  pub one-record : (c b : ℕ) → Sound n H c → Sound n H b → T (ok₂ D c) → 2 * faults n + 1 ≤ times (readReports (S c)) 1 n → T (ok₂ D b) → held b ≡ held c
   one-record c b sc sb oc l ob =
       same-eq (held b) (held c) (by-contra (same (held b) (held c)) (λ no. one-camp c b sc sb oc l ob (λ e. no (rw e (same-refl (held b))))))
 
@@ -134,7 +134,7 @@ module _ {n m : ℕ} {H : ℕ → Bool} {held : ℕ → List ℕ} {A R : ℕ →
     unfolding times
     all-two i si =
         is-two n i (agrees (A i)) (reported (R i)) (S i) (all-second i si)
-        (omega (arith, faults-few (D .wall), enough (D .wall) (λ j. eqb (reportsOf (S i) j) 1) (λ j sj. rw (second-heard D i j si sj) (all-second j sj))))
+        (omega (arith, faults-few (D .wall), enough (D .wall) (λ j. eqb (readReports (S i) j) 1) (λ j sj. rw (second-heard D i j si sj) (all-second j sj))))
 
   pub theorem-3-3 : Graded n H held (gradeOf n A R S)
   theorem-3-3 = record { validity = all-two; enough = enough-keep; others = others-zero }

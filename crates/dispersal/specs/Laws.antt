@@ -14,13 +14,13 @@ use Rattle.lists.specs.Tests.{conj, and-both, T-ext, eq→eqb}
 use Rattle.lists.specs.Entries.{all-each, each-all, all-same, listOf-same}
 use Rattle.field.specs.Field.{blank}
 use Rattle.sizes.specs.Sizes.{blocks, refusal}
-use Rattle.sizes.specs.Laws.{accepted, blocks-le}
+use Rattle.sizes.specs.Laws.{few-blocks}
 use Rattle.messages.specs.Messages.{readPoint, readReport, said, laid, heard, times}
 use Rattle.lists.specs.Count.{count-same}
 use Rattle.messages.specs.Laws.{point-is, same-report, said-laid, heard-same, accepted as messages-accepted}
 use Rattle.codeword.specs.Codeword.{point, values, meetIn, meets}
 use Rattle.codeword.specs.Apart.{point-lt, length-values, said-values}
-use Rattle.dispersal.specs.Dispersal.{exchange, agreesIn, agreesWith, agreementAt, agreements, agrees, reported, both, reportsOf, exchangeRefusal, agreed}
+use Rattle.dispersal.specs.Dispersal.{exchange, agreesIn, agreesWith, agreementAt, agreements, agrees, reported, both, readReports, exchangeRefusal, agreed}
 
 -- THE MESSAGE OF THE EXCHANGE
 
@@ -37,10 +37,6 @@ module _ (n m own : ℕ) (bytes : List ℕ) (j : ℕ) where
 -- two parts of b values as one message
 unfoldable pub joined : ℕ → List ℕ → List ℕ → ℕ → ℕ
 joined b first second k = cond (ltb k b) (said first k) (said second (k - b))
-
--- a wall whose sizes and number are not refused
-pub few-blocks : (n m own : ℕ) → refusal n m own ≡ 0 → blocks n m ≤ 32
-few-blocks n m own e = omega (arith, blocks-le n m, accepted n m own e .range .bytes-high)
 
 pub length-exchange : (n m own : ℕ) (bytes : List ℕ) (j : ℕ) → length (exchange n m own bytes j) ≡ 2 * blocks n m
 unfolding exchange
@@ -175,8 +171,8 @@ unfolding both agrees reported
 both-place some others i = let e : i + 1 - 1 ≡ i = omega arith in rw e
 
 -- a report is read as it came
-pub times-reports : (received : ℕ → ℕ) (n : ℕ) → times (reportsOf received) 1 n ≡ times received 1 n
-unfolding times reportsOf
+pub times-reports : (received : ℕ → ℕ) (n : ℕ) → times (readReports received) 1 n ≡ times received 1 n
+unfolding times readReports
 times-reports received n = count-same (λ j. eqb (readReport (received j)) 1) (λ j. eqb (received j) 1) n (λ j l u. same-report (received j))
 
 -- BETWEEN SOUND COLUMNS

@@ -88,7 +88,7 @@ recordOf n m received = cond (all (isBlock n m received) (blocks n m)) (some (li
 
 -- THE CALLS ON SLICES, refused inputs included: 1, 2, 3 for the sizes and the number, 4 for a slice that does not hold B values a column
 
-unfoldable pub roundRefusal : ℕ → ℕ → ℕ → ℕ → ℕ
+abbrev pub roundRefusal : ℕ → ℕ → ℕ → ℕ → ℕ
 roundRefusal n m own len = refusal (refusalOfSizes n m own) n (blocks n m) len
 
 unfoldable pub kept : ℕ → ℕ → ℕ → Bool → List ℕ → List ℕ → KeptPoints

@@ -11,7 +11,7 @@ use Rattle.lists.specs.Lists.{listOf}
 use Rattle.lists.specs.Entries.{length-listOf, getD-listOf}
 use Rattle.field.specs.Field.{blank}
 use Rattle.sizes.specs.Sizes.{blocks, refusal}
-use Rattle.sizes.specs.Laws.{accepted, blocks-le, columns-accepted}
+use Rattle.sizes.specs.Laws.{accepted}
 use Rattle.messages.specs.Messages.{readPoint, said, from, laid, heardOfAll}
 use Rattle.messages.specs.Laws.{said-laid, from-place, from-heard, heard-same, accepted as messages-accepted}
 use Rattle.codeword.specs.Codeword.{values}
@@ -72,13 +72,6 @@ points-taken n own mine w inbox k h =
 pub round-accepted : (n m own len : ℕ) → roundRefusal n m own len ≡ 0 → (refusal n m own ≡ 0) × (len ≡ n * blocks n m)
 unfolding roundRefusal
 round-accepted n m own len e = messages-accepted (refusal n m own) n (blocks n m) len e
-
-pub few-blocks : (n m own : ℕ) → refusal n m own ≡ 0 → blocks n m ≤ 32
-few-blocks n m own e = omega (arith, blocks-le n m, accepted n m own e .range .bytes-high)
-
--- the n of an accepted wall is one
-pub columns-too : (n m own : ℕ) → refusal n m own ≡ 0 → refusal n 1 1 ≡ 0
-columns-too n m own e = let a = accepted n m own e in columns-accepted n (a .range .columns-low) (a .range .columns-high)
 
 -- the column's own message, in 32 places
 pub said-own : (n m : ℕ) (speaks : Bool) (bytes : List ℕ) (x : ℕ) → blocks n m ≤ 32 → (all : List ℕ) → all ≡ laid 32 (values n m bytes x)

@@ -52,7 +52,7 @@ unfoldable pub unlessRefused : ℕ → List ℕ → List ℕ → List ℕ
 unlessRefused why done before = cond (eqb why 0) done before
 
 -- the refusal of a message to all: 1 for n outside 4 to 31 (one byte and column 1 are never refused), 4 for a slice of another length
-unfoldable pub toAllRefusal : ℕ → ℕ → ℕ → ℕ
+abbrev pub toAllRefusal : ℕ → ℕ → ℕ → ℕ
 toAllRefusal n w len = refusal (refusalOfSizes n 1 1) n w len
 
 -- WHAT A COLUMN HEARS. "For its own place it uses what it would send itself and ignores the slice there."

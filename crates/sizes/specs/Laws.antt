@@ -176,6 +176,10 @@ not-refused n m number a =
       not-outside 1 n number (a .number-low) (a .number-high),
     )
 
+-- the blocks of an accepted wall: no more than a record has places
+pub few-blocks : (n m number : ℕ) → refusal n m number ≡ 0 → blocks n m ≤ 32
+few-blocks n m number e = omega (arith, blocks-le n m, accepted n m number e .range .bytes-high)
+
 -- WHERE n ALONE IS IN QUESTION: one byte and column 1 are never refused
 
 pub columns-sized : (n : ℕ) → 4 ≤ n → n ≤ 31 → Sized n 1
@@ -188,6 +192,10 @@ columns-accepted n l h =
       number-low = omega arith;
       number-high = omega arith;
     })
+
+-- n of an accepted wall
+pub columns-of : (n m number : ℕ) → refusal n m number ≡ 0 → refusal n 1 1 ≡ 0
+columns-of n m number e = let a = accepted n m number e in columns-accepted n (a .range .columns-low) (a .range .columns-high)
 
 pub columns-refused : (n : ℕ) → (n < 4) ⊎ (31 < n) → refusal n 1 1 ≡ 1
 unfolding refusal outside

@@ -3,9 +3,9 @@ use mathlib.Core.Path.{_∙_}
 use native.Mathlib.Omega.{arith}
 use borrow.Author.Tests.{le-ltb}
 use borrow.Author.Needs.{needs}
-use Rattle.sizes.specs.Laws.{blocks-le}
+use Rattle.sizes.specs.Laws.{blocks-le, few-blocks}
 use Rattle.dispersal.specs.Dispersal.{agreementAt}
-use Rattle.dispersal.specs.Laws.{few-blocks, joined-exchange, agreement-is}
+use Rattle.dispersal.specs.Laws.{joined-exchange, agreement-is}
 use Rattle.dispersal.proofs.exchange.agreement_at.Statement.{statement}
 use Rattle.dispersal.proofs.exchange.agreement_at.Tie as tie
 

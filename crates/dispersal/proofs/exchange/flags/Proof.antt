@@ -4,9 +4,9 @@ use Prim.Native.Nat.{_-_}
 use native.Mathlib.Omega.{arith}
 use borrow.Author.Needs.{needs}
 use Rattle.lists.specs.Loops.{Filled, filled-none, filled-more, filled-done}
-use Rattle.sizes.specs.Laws.{blocks-le}
+use Rattle.sizes.specs.Laws.{blocks-le, few-blocks}
 use Rattle.dispersal.specs.Dispersal.{agreementAt, agreements}
-use Rattle.dispersal.specs.Laws.{few-blocks, joined-exchange}
+use Rattle.dispersal.specs.Laws.{joined-exchange}
 use Rattle.dispersal.proofs.exchange.flags.Statement.{statement}
 use Rattle.dispersal.proofs.exchange.flags.Tie as tie
 

@@ -4,11 +4,11 @@ use mathlib.Core.List.{List}
 use Prim.Native.Nat.{ℕ, _+_}
 use native.Mathlib.Omega.{arith}
 use borrow.Author.Needs.{needs}
-use Rattle.sizes.specs.Laws.{blocks-le}
+use Rattle.sizes.specs.Laws.{blocks-le, few-blocks}
 use Rattle.messages.specs.Messages.{said}
 use Rattle.messages.specs.Laws.{said-laid, written-as}
 use Rattle.dispersal.specs.Dispersal.{exchange}
-use Rattle.dispersal.specs.Laws.{few-blocks, joined-exchange, length-exchange}
+use Rattle.dispersal.specs.Laws.{joined-exchange, length-exchange}
 use Rattle.dispersal.proofs.exchange.send_one.Statement.{statement}
 use Rattle.dispersal.proofs.exchange.send_one.Tie as tie
 

@@ -7,7 +7,7 @@ use borrow.Author.Needs.{needs}
 use Rattle.sizes.specs.Sizes.{faults}
 use Rattle.sizes.specs.Laws.{faults-le}
 use Rattle.messages.specs.Messages.{from, times}
-use Rattle.dispersal.specs.Dispersal.{reportsOf, grade}
+use Rattle.dispersal.specs.Dispersal.{readReports, grade}
 use Rattle.dispersal.specs.Laws.{times-reports}
 use Rattle.dispersal.proofs.reports.grade.Statement.{statement}
 use Rattle.dispersal.proofs.reports.grade.Tie as tie
@@ -40,12 +40,12 @@ times-requires c κs = search needs
 returns-2 : tie.Need-returns-2
 unfolding grade
 returns-2 c = let a = c .before .before .before .before .before .before .before .before .args in
-    simp (sym (c .before .before .before .before .before .sends-second .ensures) ∙ not-false _ (c .before .before .before .before .if1 .left), le-leb (2 * faults (a .n) + 1) (times (reportsOf (from (a .t5))) 1 (a .n)) (omega (arith, c .if2 .taken, c .before .before .before .faults .ensures, c .before .times .ensures, times-reports (from (a .t5)) (a .n))))
+    simp (sym (c .before .before .before .before .before .sends-second .ensures) ∙ not-false _ (c .before .before .before .before .if1 .left), le-leb (2 * faults (a .n) + 1) (times (readReports (from (a .t5))) 1 (a .n)) (omega (arith, c .if2 .taken, c .before .before .before .faults .ensures, c .before .times .ensures, times-reports (from (a .t5)) (a .n))))
 
 returns-3 : tie.Need-returns-3
 unfolding grade
 returns-3 c = let a = c .before .before .before .before .before .before .before .before .args in
-    simp (sym (c .before .before .before .before .before .sends-second .ensures) ∙ not-false _ (c .before .before .before .before .if1 .left), lt-leb (2 * faults (a .n) + 1) (times (reportsOf (from (a .t5))) 1 (a .n)) (omega (arith, c .if2 .left, c .before .before .before .faults .ensures, c .before .times .ensures, times-reports (from (a .t5)) (a .n))))
+    simp (sym (c .before .before .before .before .before .sends-second .ensures) ∙ not-false _ (c .before .before .before .before .if1 .left), lt-leb (2 * faults (a .n) + 1) (times (readReports (from (a .t5))) 1 (a .n)) (omega (arith, c .if2 .left, c .before .before .before .faults .ensures, c .before .times .ensures, times-reports (from (a .t5)) (a .n))))
 
 pub grade-spec : {M : Type 1} → statement M
 grade-spec =

@@ -10,13 +10,12 @@ use types.Run.{OneOf}
 use denote.Enum.Declared.{tagOf}
 use borrow.Author.Needs.{needs}
 use borrow.Author.Tests.{not-true}
-use Rattle.sizes.specs.Laws.{accepted, blocks-le, degree-le}
+use Rattle.sizes.specs.Laws.{accepted, blocks-le, degree-le, few-blocks}
 use Rattle.sizes.specs.Sizes.{blocks, degree}
 use Rattle.decoder.specs.declared.Decoded.{Decoded}
 use Rattle.decoder.specs.declared.Decoded.the-variants.{Polynomial, Nothing, Refused}
 use Rattle.decoder.specs.Decoder.{polynomialOf}
 use Rattle.decoder.proofs.Decoded.{the-type}
-use Rattle.dissemination.specs.Laws.{few-blocks}
 use Rattle.dissemination.specs.Decoding.{answerIn, block-missing, block-bytes, done-none, done-more, decodes-none, decodes-all, Done}
 use Rattle.dissemination.specs.Dissemination.{pointsIn}
 use Rattle.dissemination.proofs.decoding.decode_blocks.Statement.{statement}

@@ -5,8 +5,9 @@ use Prim.Native.Nat.{ℕ, _-_}
 use native.Mathlib.Omega.{arith}
 use Rattle.lists.specs.Loops.{Filled, filled-none, filled-more, filled-done}
 use Rattle.messages.specs.Messages.{said}
+use Rattle.sizes.specs.Laws.{few-blocks}
 use Rattle.dissemination.specs.Dissemination.{keptAt, keptPoints}
-use Rattle.dissemination.specs.Laws.{few-blocks, said-own}
+use Rattle.dissemination.specs.Laws.{said-own}
 use Rattle.dissemination.proofs.points.kept_points.Statement.{statement}
 use Rattle.dissemination.proofs.points.kept_points.Tie as tie
 

@@ -4,11 +4,11 @@ use mathlib.Core.List.{List}
 use Prim.Native.Nat.{ℕ, _+_}
 use native.Mathlib.Omega.{arith}
 use borrow.Author.Needs.{needs}
-use Rattle.sizes.specs.Laws.{blocks-le}
+use Rattle.sizes.specs.Laws.{blocks-le, few-blocks}
 use Rattle.messages.specs.Messages.{said}
 use Rattle.messages.specs.Laws.{written-as}
 use Rattle.dissemination.specs.Dissemination.{points}
-use Rattle.dissemination.specs.Laws.{few-blocks, said-own}
+use Rattle.dissemination.specs.Laws.{said-own}
 use Rattle.dissemination.proofs.points.send_one.Statement.{statement}
 use Rattle.dissemination.proofs.points.send_one.Tie as tie
 

@@ -17,7 +17,7 @@ use Rattle.sizes.specs.Sizes.{blocks, refusal}
 use Rattle.sizes.specs.Laws.{few-blocks}
 use Rattle.messages.specs.Messages.{readPoint, readReport, said, laid, heard, times}
 use Rattle.lists.specs.Count.{count-same}
-use Rattle.messages.specs.Laws.{point-is, same-report, said-laid, heard-same, accepted as messages-accepted}
+use Rattle.messages.specs.Laws.{point-is, same-report, said-laid, heard-same}
 use Rattle.codeword.specs.Codeword.{point, values, meetIn, meets}
 use Rattle.codeword.specs.Apart.{point-lt, length-values, said-values}
 use Rattle.dispersal.specs.Dispersal.{exchange, agreesIn, agreesWith, agreementAt, agreements, agrees, reported, both, readReports, exchangeRefusal, agreed}
@@ -140,10 +140,6 @@ agreement-is n m own bytes inbox i b me expected r l e f g =
     same k _ = rw (heard-same own (laid 64 mine) w inbox mine (i + 1) k (said-laid 64 mine k (fits own)), said-laid 64 theirs k (fits (i + 1)))
 
 -- THE CALLS ON SLICES
-
-pub exchange-accepted : (n m own len : ℕ) → exchangeRefusal n m own len ≡ 0 → (refusal n m own ≡ 0) × (len ≡ n * (2 * blocks n m))
-unfolding exchangeRefusal
-exchange-accepted n m own len e = messages-accepted (refusal n m own) n (2 * blocks n m) len e
 
 module _ (n m own : ℕ) (bytes inbox : List ℕ) (r : ℕ) (e : r ≡ exchangeRefusal n m own (length inbox)) where
   pub agreed-refused : (r ≡ 0 → ⊥) → record { refusal = r; flags = replicate 31 false } ≡ agreed n m own bytes inbox

@@ -19,13 +19,13 @@ use Rattle.field.specs.Field.{blank}
 use Rattle.sizes.specs.Sizes.{degree, blocks}
 use Rattle.sizes.specs.Laws.{InRange, sized, accepted}
 use Rattle.messages.specs.Messages.{readPoint, said}
-use Rattle.messages.specs.Laws.{heard-same}
+use Rattle.messages.specs.Laws.{heard-same, accepted as messages-accepted}
 use Rattle.decoder.specs.declared.Coefficients.{Coefficients}
 use Rattle.decoder.specs.declared.Decoded.{Decoded}
 use Rattle.decoder.specs.declared.Decoded.the-variants.{Polynomial, Nothing, Refused}
 use Rattle.decoder.specs.Decoder.{decoded, four, polynomialOf}
 use Rattle.dissemination.specs.Dissemination.{spoken, pointsIn, pointAt, blockOf, there, coefficient, isByte, isBlock, byteAt, recordOf, roundRefusal, answerOf, refusedWith, disseminated}
-use Rattle.dissemination.specs.Laws.{silenced, said-silenced, round-accepted}
+use Rattle.dissemination.specs.Laws.{silenced, said-silenced}
 
 -- v may stand at place p of a record of m bytes
 unfoldable pub isByteAt : ℕ → ℕ → ℕ → Bool
@@ -197,5 +197,5 @@ module _ (n m own : ℕ) (speaks : Bool) (kept inbox : List ℕ) (r : ℕ) (e : 
       → record { refusal = 0; found = true; bytes = bytes } ≡ disseminated n m own speaks kept inbox
   unfolding disseminated answerOf recordOf
   disseminated-some coefficients bytes found z d f b =
-      let range = accepted n m own (round-accepted n m own (length inbox) (sym e ∙ z) .0) .range in
+      let range = accepted n m own (messages-accepted _ _ _ _ (sym e ∙ z) .0) .range in
       rw (← e, z, sym (d .tells) ∙ f, b) (ap (λ (l : List ℕ). record { refusal = 0; found = true; bytes = l }) (bytes-are n m (pointsIn own (spoken speaks kept) (blocks n m) inbox) coefficients range (rw f at d)))

@@ -2,7 +2,7 @@
 use mathlib.Core.Path.{_≡_, refl, sym, ap, _∙_}
 use mathlib.Core.Bool.{Bool, true, false, cond}
 use mathlib.Core.List.{List}
-use Prim.Native.Nat.{ℕ, zero, suc, _+_, _-_, _*_, _≤_, _<_}
+use Prim.Native.Nat.{ℕ, zero, suc, _+_, _-_, _≤_, _<_}
 use native.Mathlib.Omega.{arith}
 use borrow.Author.Tests.{lt-ltb, ne-eqb}
 use lib.ListN.{length, getD, take, replicate}
@@ -13,7 +13,7 @@ use Rattle.field.specs.Field.{blank}
 use Rattle.sizes.specs.Sizes.{blocks, refusal}
 use Rattle.sizes.specs.Laws.{accepted}
 use Rattle.messages.specs.Messages.{readPoint, said, from, laid, heardOfAll}
-use Rattle.messages.specs.Laws.{said-laid, from-place, from-heard, heard-same, accepted as messages-accepted}
+use Rattle.messages.specs.Laws.{said-laid, from-place, from-heard, heard-same}
 use Rattle.codeword.specs.Codeword.{values}
 use Rattle.codeword.specs.Apart.{length-values}
 use Rattle.dissemination.specs.Dissemination.{spoken, pointsIn, pointAt, points, keptPoint, keptAt, keptPoints, roundRefusal, kept}
@@ -68,10 +68,6 @@ points-taken n own mine w inbox k h =
     long = length-take-le n read (omega (arith, length-listOf (readAt (heardOfAll n own mine w inbox k)) 31))
 
 -- THE CALLS OF THE FIRST ROUND
-
-pub round-accepted : (n m own len : ℕ) → roundRefusal n m own len ≡ 0 → (refusal n m own ≡ 0) × (len ≡ n * blocks n m)
-unfolding roundRefusal
-round-accepted n m own len e = messages-accepted (refusal n m own) n (blocks n m) len e
 
 -- the column's own message, in 32 places
 pub said-own : (n m : ℕ) (speaks : Bool) (bytes : List ℕ) (x : ℕ) → blocks n m ≤ 32 → (all : List ℕ) → all ≡ laid 32 (values n m bytes x)

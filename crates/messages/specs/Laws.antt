@@ -14,8 +14,7 @@ use Rattle.lists.specs.Entries.{length-listOf, getD-listOf, listOf-same}
 use Rattle.lists.specs.Tests.{passes}
 use Rattle.lists.specs.Rows.{rowsOf-same}
 use Rattle.field.specs.Field.{blank}
-use Rattle.sizes.specs.Sizes.{refusal as refusalOfSizes}
-use Rattle.messages.specs.Messages.{readPoint, readReport, readBit, said, from, toAll, laid, written, refusal, unlessRefused, toAllRefusal, heard, heardFrom, heardOfAll}
+use Rattle.messages.specs.Messages.{readPoint, readReport, readBit, said, from, toAll, laid, written, refusal, unlessRefused, heard, heardFrom, heardOfAll}
 
 -- WHAT A VALUE SAYS: a legal value is itself
 
@@ -103,10 +102,6 @@ module _ (why n w len : ℕ) where
   pub not-refused : why ≡ 0 → len ≡ n * w → refusal why n w len ≡ 0
   unfolding refusal
   not-refused e h = simp (eq-eqb why 0 e, eq-eqb len (n * w) h)
-
-pub to-all-accepted : (n w len : ℕ) → refusalOfSizes n 1 1 ≡ 0 → len ≡ n * w → toAllRefusal n w len ≡ 0
-unfolding toAllRefusal
-to-all-accepted n w len e h = not-refused (refusalOfSizes n 1 1) n w len e h
 
 -- a call that is not refused: the slice is as long as it has to be
 pub accepted : (why n w len : ℕ) → refusal why n w len ≡ 0 → (why ≡ 0) × (len ≡ n * w)

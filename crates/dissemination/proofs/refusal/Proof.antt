@@ -3,7 +3,6 @@ use mathlib.Core.Path.{refl, _∙_}
 use native.Mathlib.Omega.{arith}
 use borrow.Author.Needs.{needs}
 use Rattle.sizes.specs.Laws.{blocks-le}
-use Rattle.dissemination.specs.Dissemination.{roundRefusal}
 use Rattle.dissemination.proofs.refusal.Statement.{statement}
 use Rattle.dissemination.proofs.refusal.Tie as tie
 
@@ -20,7 +19,6 @@ refusal-requires-2 : tie.Need-refusal-requires-2
 refusal-requires-2 c κs = search needs
 
 returns : tie.Need-returns
-unfolding roundRefusal
 returns c = c .refusal2 .ensures ∙ rw (c .before .before .refusal .ensures, c .before .blocks2 .ensures) refl
 
 pub refusal-spec : {M : Type 1} → statement M

@@ -4,7 +4,7 @@ use Prim.Native.Nat.{ℕ, _-_}
 use native.Mathlib.Omega.{arith}
 use lib.ListN.{length}
 use Rattle.lists.specs.Loops.{Rowed, rowed-none, rowed-fits, rowed-more, rowed-room, rowed-done}
-use Rattle.messages.specs.Messages.{refusal, said, toAll, toAllRefusal}
+use Rattle.messages.specs.Messages.{refusal, said, toAll}
 use Rattle.messages.specs.Laws.{written-fits, accepted, if-refused, if-done}
 use Rattle.messages.proofs.to_all.Statement.{statement}
 use Rattle.messages.proofs.to_all.Tie as tie
@@ -22,7 +22,6 @@ refusal-requires-2 : tie.Need-refusal-requires-2 Inv-loop μ-loop
 refusal-requires-2 c κs = tt
 
 returns : tie.Need-returns Inv-loop μ-loop
-unfolding toAllRefusal
 returns c = let a = c .before .before .before .before .before .args in
     let e = c .before .refusal2 .ensures ∙ ap (λ (q : ℕ). refusal q (a .n) (a .w) (length (a .out .now))) (c .before .before .refusal .ensures) in
     (e, sym (if-refused _ _ _ (λ z. c .if1 .taken (e ∙ z))))
@@ -62,7 +61,7 @@ same-length : tie.Need-same-length Inv-loop μ-loop
 same-length c = c .before .loop .inv .same
 
 returns-2 : tie.Need-returns-2 Inv-loop μ-loop
-unfolding toAllRefusal toAll
+unfolding toAll
 returns-2 c = let a = c .before .before .before .before .before .before .before .args in
     let e = sym (c .before .before .if1 .left) ∙ c .before .before .before .refusal2 .ensures ∙ ap (λ (q : ℕ). refusal q (a .n) (a .w) (length (a .out .now))) (c .before .before .before .before .refusal .ensures) in
     (e, rowed-done _ _ _ _ _ _ (c .before .loop .inv) (omega arith) ∙ sym (if-done _ _ _ (sym e)))

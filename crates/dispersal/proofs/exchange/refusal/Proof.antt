@@ -3,7 +3,6 @@ use mathlib.Core.Path.{refl, _∙_}
 use native.Mathlib.Omega.{arith}
 use borrow.Author.Needs.{needs}
 use Rattle.sizes.specs.Laws.{blocks-le}
-use Rattle.dispersal.specs.Dispersal.{exchangeRefusal}
 use Rattle.dispersal.proofs.exchange.refusal.Statement.{statement}
 use Rattle.dispersal.proofs.exchange.refusal.Tie as tie
 
@@ -23,7 +22,6 @@ refusal-requires-2 : tie.Need-refusal-requires-2
 refusal-requires-2 c κs = search needs
 
 returns : tie.Need-returns
-unfolding exchangeRefusal
 returns c = let a = c .before .before .before .args in
     c .refusal2 .ensures ∙ rw (c .before .before .refusal .ensures, c .before .blocks2 .ensures) refl
 

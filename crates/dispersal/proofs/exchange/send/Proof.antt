@@ -1,8 +1,7 @@
 -- `exchange::send` meets its contract.
 use mathlib.Core.Path.{sym, _∙_}
 use borrow.Author.Needs.{needs}
-use Rattle.messages.specs.Laws.{if-refused, if-done}
-use Rattle.dispersal.specs.Laws.{exchange-accepted}
+use Rattle.messages.specs.Laws.{if-refused, if-done, accepted as messages-accepted}
 use Rattle.dispersal.proofs.exchange.send.Statement.{statement}
 use Rattle.dispersal.proofs.exchange.send.Tie as tie
 
@@ -13,7 +12,7 @@ returns : tie.Need-returns
 returns c = (c .before .refusal .ensures, sym (if-refused _ _ _ (λ z. c .if1 .taken (c .before .refusal .ensures ∙ z))))
 
 send-all-requires : tie.Need-send-all-requires
-send-all-requires c κs = let h = exchange-accepted _ _ _ _ (sym (c .before .before .refusal .ensures) ∙ c .before .if1 .left) in (h .0, sym (h .1))
+send-all-requires c κs = let h = messages-accepted _ _ _ _ (sym (c .before .before .refusal .ensures) ∙ c .before .if1 .left) in (h .0, sym (h .1))
 
 same-length : tie.Need-same-length
 same-length c = search needs

@@ -4,8 +4,8 @@ use native.Mathlib.Omega.{arith}
 use borrow.Author.Tests.{not-true, not-false}
 use borrow.Author.Needs.{needs}
 use Rattle.sizes.specs.Laws.{degree-le}
+use Rattle.messages.specs.Laws.{accepted as messages-accepted}
 use Rattle.dissemination.specs.Decoding.{decodes-told, disseminated-refused, disseminated-none, disseminated-some}
-use Rattle.dissemination.specs.Laws.{round-accepted}
 use Rattle.dissemination.proofs.decoding.decode.Statement.{statement}
 use Rattle.dissemination.proofs.decoding.decode.Tie as tie
 
@@ -19,7 +19,7 @@ silenced-unless-requires : tie.Need-silenced-unless-requires
 silenced-unless-requires c κs = search needs
 
 decode-blocks-requires : tie.Need-decode-blocks-requires
-decode-blocks-requires c κs = round-accepted _ _ _ _ (sym (c .before .before .refusal .ensures) ∙ c .before .if1 .left) .0
+decode-blocks-requires c κs = messages-accepted _ _ _ _ (sym (c .before .before .refusal .ensures) ∙ c .before .if1 .left) .0
 
 returns-2 : tie.Need-returns-2
 returns-2 c = let a = c .before .before .before .before .before .before .before .args in

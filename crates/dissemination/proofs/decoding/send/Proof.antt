@@ -8,9 +8,9 @@ use lib.ListN.{length}
 use Rattle.sizes.specs.Sizes.{blocks}
 use Rattle.sizes.specs.Laws.{blocks-le, columns-of}
 use Rattle.messages.specs.Messages.{toAllRefusal, said}
-use Rattle.messages.specs.Laws.{if-refused, if-done, to-all-accepted, toAll-same}
+use Rattle.messages.specs.Laws.{if-refused, if-done, toAll-same, accepted as messages-accepted, not-refused}
 use Rattle.dissemination.specs.Dissemination.{spoken}
-use Rattle.dissemination.specs.Laws.{round-accepted, said-silenced}
+use Rattle.dissemination.specs.Laws.{said-silenced}
 use Rattle.dissemination.proofs.decoding.send.Statement.{statement}
 use Rattle.dissemination.proofs.decoding.send.Tie as tie
 
@@ -41,8 +41,8 @@ same-length c = search needs
 returns-2 : tie.Need-returns-2
 returns-2 c = let a = c .before .before .before .before .before .before .before .before .before .before .args in
     let e = sym (c .before .before .before .before .before .before .before .if1 .left) ∙ c .before .before .before .before .before .before .before .before .refusal .ensures in
-    let h = round-accepted (a .n) (a .m) 1 (length (a .out .now)) (sym e) in
-    let ok : toAllRefusal (a .n) (blocks (a .n) (a .m)) (length (a .out .now)) ≡ 0 = to-all-accepted (a .n) (blocks (a .n) (a .m)) (length (a .out .now)) (columns-of (a .n) (a .m) 1 (h .0)) (h .1) in
+    let h = messages-accepted _ _ _ (length (a .out .now)) (sym e) in
+    let ok : toAllRefusal (a .n) (blocks (a .n) (a .m)) (length (a .out .now)) ≡ 0 = not-refused _ _ _ _ (columns-of (a .n) (a .m) 1 (h .0)) (h .1) in
     let told = rw (c .before .before .before .before .before .blocks2 .ensures) at (c .before .before .to-all .ensures) in
     (told .0 ∙ ok ∙ e, told .1 ∙ if-done _ _ _ ok ∙ toAll-same (a .n) (blocks (a .n) (a .m)) _ (spoken (a .speaks) (a .kept)) (λ k. ap (λ (l : List ℕ). said l k) (c .before .before .before .before .before .before .silenced-unless .ensures) ∙ said-silenced (a .speaks) (a .kept) k) ∙ sym (if-done _ _ _ (sym e)))
 

@@ -5,8 +5,8 @@ use mathlib.Core.Bool.{Bool, not}
 use Prim.Native.Nat.{ℕ, zero, suc, _+_, _-_, _≤_, _<_}
 use native.Mathlib.Nat.{sub-add-cancel, zero-add, add-zero, suc-add}
 use native.Mathlib.Omega.{arith}
+use Rattle.lists.specs.Lists.{count}
 use Rattle.lists.specs.Count.{count-not, longer, find, Found}
-use Rattle.sizes.specs.Sizes.{faults}
 use Rattle.messages.specs.Wall.{Wall, Sound}
 use Rattle.messages.specs.Quorums.{faults-few}
 use Rattle.king.specs.King.{phases}
@@ -15,11 +15,13 @@ use Rattle.king.specs.Phase.{Phase, persists, between-bits, common-after
 -- one of the kings, columns 1 to t + 1, is sound
 pub sound-king : {n : ℕ} {H : ℕ → Bool} → Wall n H → (k : ℕ) × (k < phases n) × Sound n H (suc k)
 unfolding Found phases
-sound-king {n} {H} W =
-    let l : suc (faults n) ≤ n = omega (arith, faults-few W) in
-    go (find H (suc (faults n)) (omega (arith, W .few, count-not H (suc (faults n)), rw (sub-add-cancel l) at (longer (λ i. not (H i)) (suc (faults n)) (n - suc (faults n))))))
+sound-king {n} {H} W = go (find H (phases n) (omega (arith, W .few, count-not H (phases n), among)))
   where
-    go : Found H (suc (faults n)) → (k : ℕ) × (k < faults n + 1) × Sound n H (suc k)
+    -- the unsound kings are no more than the unsound columns
+    among : count (λ i. not (H i)) (phases n) ≤ count (λ i. not (H i)) n
+    among = rw (sub-add-cancel {n = n} {m = phases n} (omega (arith, faults-few W))) at (longer (λ i. not (H i)) (phases n) (n - phases n))
+
+    go : Found H (phases n) → (k : ℕ) × (k < phases n) × Sound n H (suc k)
     go (zero, l, u, h) = absurd (omega arith)
     go (suc k, l, u, h) = (k, omega arith, (l, omega (arith, faults-few W), h))
 

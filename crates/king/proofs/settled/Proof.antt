@@ -1,9 +1,7 @@
 -- `settled` meets its contract.
-use Prim.Native.Nat.{_+_}
 use native.Mathlib.Omega.{arith}
 use borrow.Author.Needs.{needs}
 use Rattle.sizes.specs.Laws.{faults-le}
-use Rattle.messages.specs.Messages.{from}
 use Rattle.king.specs.King.{chosen, settled}
 use Rattle.king.specs.Laws.{chosen-lt}
 use Rattle.king.proofs.settled.Statement.{statement}
@@ -22,7 +20,7 @@ chosen-requires : tie.Need-chosen-requires
 chosen-requires c κs = search needs
 
 cast-result : tie.Need-cast-result
-cast-result c = record { fits = omega (arith, c .chosen .ensures, chosen-lt (c .before .before .before .args .n) (c .before .faults .result + 1) (from (c .before .before .before .args .t2)) (c .before .before .before .args .vote) 256 (omega arith) (omega arith)) }
+cast-result c = record { fits = rw (c .chosen .ensures) (chosen-lt _ _ _ _ 256 (omega arith) (omega arith)) }
 
 returns : tie.Need-returns
 unfolding settled

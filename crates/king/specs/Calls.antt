@@ -1,12 +1,12 @@
 -- The calls make the phases: where every sound column proposes, settles and is crowned by the calls' definitions, from what it hears, the
 -- votes go through a `Phase`. So the theorem speaks of what the contracts cite.
-use mathlib.Core.Path.{_≡_, refl}
+use mathlib.Core.Path.{refl}
 use mathlib.Core.Bool.{Bool}
 use mathlib.Core.List.{List, [], _∷_}
 use Prim.Native.Nat.{ℕ}
 use native.Mathlib.Omega.{arith}
 use Rattle.messages.specs.Messages.{from, said, toAll, heard, heardOfAll}
-use Rattle.messages.specs.Wall.{Wall, Sound, Delivered}
+use Rattle.messages.specs.Wall.{Wall, Delivered}
 use Rattle.messages.specs.Delivery.{heard-message, heard-value}
 use Rattle.king.specs.King.{proposal, settled, firm, word, crowned}
 use Rattle.king.specs.Phase.{Phase}

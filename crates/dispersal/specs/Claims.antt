@@ -195,7 +195,7 @@ module _ {n m : ℕ} {H : ℕ → Bool} {held : ℕ → List ℕ} {A R : ℕ →
   pub claim-3-6 : (r s : List ℕ) → count (at r s) n ≤ degree n → Camps r s → Camps s r → count (holds H held r) n ≤ faults n → count (holds H held s) n ≤ faults n
       → (c : ℕ) → Sound n H c → 2 * faults n + 1 ≤ times (readReports (S c)) 1 n → ⊥
   unfolding Camps
-  claim-3-6 r s few camps spmac small-r small-s c sc g =
+  claim-3-6 r s few camps swapped small-r small-s c sc g =
       omega (
         arith,
         few-enough,
@@ -209,4 +209,4 @@ module _ {n m : ℕ} {H : ℕ → Bool} {held : ℕ → List ℕ} {A R : ℕ →
     where
       meet : (i : ℕ) → Sound n H i → T (ok₂ i) → (held i ≡ r) ⊎ (held i ≡ s) → T (at r s i)
       meet i si oi (inl e) = small-camp r s camps small-r i si e oi
-      meet i si oi (inr e) = meet-sym s r i (small-camp s r spmac small-s i si e oi)
+      meet i si oi (inr e) = meet-sym s r i (small-camp s r swapped small-s i si e oi)

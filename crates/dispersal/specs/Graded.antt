@@ -80,13 +80,13 @@ module _ {n m : ℕ} {H : ℕ → Bool} {held : ℕ → List ℕ} {A R : ℕ →
       camps : Camps D (held c) (held b)
       camps = two-camps c b sc sb (first-sent D c sc oc) (first-sent D b sb ob) ne
 
-      spmac : Camps D (held b) (held c)
-      spmac = two-camps b c sb sc (first-sent D b sb ob) (first-sent D c sc oc) (λ e. ne (sym e))
+      swapped : Camps D (held b) (held c)
+      swapped = two-camps b c sb sc (first-sent D b sb ob) (first-sent D c sc oc) (λ e. ne (sym e))
 
       go : Dec (suc (faults n) ≤ count (holds H held (held c)) n) → Dec (suc (faults n) ≤ count (holds H held (held b)) n) → ⊥
       go (yes p) q = claim-3-5 D (held c) (held b) (few-points D c b sc sb ne) camps p b sb refl ob
-      go (no p) (yes q) = claim-3-5 D (held b) (held c) (few-points D b c sb sc (λ e. ne (sym e))) spmac q c sc refl oc
-      go (no p) (no q) = claim-3-6 D (held c) (held b) (few-points D c b sc sb ne) camps spmac (omega arith) (omega arith) c sc l
+      go (no p) (yes q) = claim-3-5 D (held b) (held c) (few-points D b c sb sc (λ e. ne (sym e))) swapped q c sc refl oc
+      go (no p) (no q) = claim-3-6 D (held c) (held b) (few-points D c b sc sb ne) camps swapped (omega arith) (omega arith) c sc l
 
   pub one-record : (c b : ℕ) → Sound n H c → Sound n H b → T (ok₂ D c) → 2 * faults n + 1 ≤ times (readReports (S c)) 1 n → T (ok₂ D b) → held b ≡ held c
   one-record c b sc sb oc l ob =

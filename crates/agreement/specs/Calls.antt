@@ -23,14 +23,17 @@ use Rattle.agreement.specs.Column.{freshColumn, fits}
 use Rattle.agreement.specs.Parts.{withStage}
 use Rattle.agreement.specs.Rounds.{kindOf, outgoing, hears}
 
--- "A refusal gives its number and the state as it came": 0 for none
-unfoldable pub answered : ℕ → Column → Column → Answered
-answered why done before = cond (eqb why 0) (record { answer = Done; column = done }) (record { answer = Refused why; column = before })
-
--- document 01's number of an answer
+-- document 01's number of an answer, 0 for none, and the answer of a number
 unfoldable pub refusalOf : Answer → ℕ
 refusalOf Done = 0
 refusalOf (Refused why) = why
+
+unfoldable pub answerOf : ℕ → Answer
+answerOf why = cond (eqb why 0) Done (Refused why)
+
+-- "A refusal gives its number and the state as it came"
+unfoldable pub answered : ℕ → Column → Column → Answered
+answered why done before = record { answer = answerOf why; column = cond (eqb why 0) done before }
 
 -- FRESH
 
@@ -104,22 +107,23 @@ listen c inbox = answered (listenRefusal c (length inbox)) (hears (kindOf (c .n)
 unfoldable pub outcomeRefusal : Column → ℕ
 outcomeRefusal c = inState c (whenAsked (c .stage))
 
--- what the column ended on
+-- what the column ended on; nothing before the end, where the call is refused
 unfoldable pub ending : Stage → Outcome
 ending (Speak round) = Nothing
 ending (Listen round) = Nothing
 ending (Ended outcome) = outcome
 
+unfoldable pub replyOf : Column → Reply
+replyOf c = cond (eqb (outcomeRefusal c) 0) (R.Ended (ending (c .stage))) (R.Refused (outcomeRefusal c))
+
 -- "32 record bytes, zeros past m or without a record"
-unfoldable pub shown : Outcome → List ℕ → List ℕ
-shown Nothing bytes = replicate 32 0
-shown Record bytes = bytes
+unfoldable pub shown : Reply → List ℕ → List ℕ
+shown (R.Ended Nothing) bytes = replicate 32 0
+shown (R.Ended Record) bytes = bytes
+shown (R.Refused why) bytes = replicate 32 0
 
 unfoldable pub outcome : Column → Replied
-outcome c =
-    cond (eqb (outcomeRefusal c) 0)
-    (record { reply = R.Ended (ending (c .stage)); bytes = shown (ending (c .stage)) (c .bytes); column = c })
-    (record { reply = R.Refused (outcomeRefusal c); bytes = replicate 32 0; column = c })
+outcome c = record { reply = replyOf c; bytes = shown (replyOf c) (c .bytes); column = c }
 
 -- document 01's number of a reply, 0 for none
 unfoldable pub refusalIn : Reply → ℕ

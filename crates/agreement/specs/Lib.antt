@@ -4,3 +4,7 @@ pub mod Parts
 pub mod Rounds
 pub mod Calls
 pub mod Claim
+pub mod Kinds
+pub mod Keeps
+pub mod Ranges
+pub mod Course

@@ -12,7 +12,8 @@ use Rattle.lists.specs.Tests.{passes}
 use Rattle.lists.specs.Count.{find, Found, count-same}
 use Rattle.field.specs.Field.{blank}
 use Rattle.sizes.specs.Sizes.{faults}
-use Rattle.messages.specs.Messages.{times}
+use Rattle.messages.specs.Messages.{readPoint, times}
+use Rattle.messages.specs.Laws.{point-is}
 use Rattle.dissemination.specs.Dissemination.{least, often, keptPoint}
 
 -- THE LEAST NUMBER THAT PASSES
@@ -37,6 +38,18 @@ least-none P (suc count) u f = go (P u) refl (least-none P count (suc u) (λ w l
     go true e g = absurd (f u (omega arith) (omega arith) (passes (P u) e))
     go false e g = rw e g
 
+-- one of the numbers asked about, or blank
+pub least-one : (P : ℕ → Bool) (count u : ℕ) → (least P count u < u + count) ⊎ (least P count u ≡ blank)
+unfolding least
+least-one P zero u = inr refl
+least-one P (suc count) u = go (P u) (least-one P count (suc u))
+  where
+    go : (b : Bool) → (least P count (suc u) < suc u + count) ⊎ (least P count (suc u) ≡ blank)
+        → (cond b u (least P count (suc u)) < u + suc count) ⊎ (cond b u (least P count (suc u)) ≡ blank)
+    go true h = inl (omega arith)
+    go false (inl h) = inl (omega arith)
+    go false (inr h) = inr h
+
 pub least-same : (P Q : ℕ → Bool) → ((v : ℕ) → P v ≡ Q v) → (count u : ℕ) → least P count u ≡ least Q count u
 unfolding least
 least-same P Q h zero u = refl
@@ -49,6 +62,18 @@ unfolding keptPoint often times
 kept-same n f g h =
     least-same (often n f) (often n g) (λ v.
     ap (λ (k : ℕ). leb (faults n + 1) k) (count-same (λ j. eqb (f j) v) (λ j. eqb (g j) v) n (λ j l u. rw (h j l u)))) 257 0
+
+-- it is a point or blank: it reads as itself
+pub kept-reads : (n : ℕ) (received : ℕ → ℕ) → readPoint (keptPoint n received) ≡ keptPoint n received
+unfolding keptPoint readPoint
+kept-reads n received = go (least-one (often n received) 257 0)
+  where
+    v : ℕ
+    v = least (often n received) 257 0
+
+    go : (v < 0 + 257) ⊎ (v ≡ blank) → readPoint v ≡ v
+    go (inl h) = point-is v (omega arith)
+    go (inr e) = rw e refl
 
 -- a point that was received often, and no other was
 pub kept-is : (n : ℕ) (received : ℕ → ℕ) (v : ℕ) → v < 257 → T (often n received v) → ((w : ℕ) → w < v → T (often n received w) → ⊥) → keptPoint n received ≡ v

@@ -2,12 +2,14 @@
 use mathlib.Core.Path.{_≡_, refl, sym, ap, _∙_}
 use mathlib.Core.Bool.{Bool, true, false, cond}
 use mathlib.Core.List.{List}
+use mathlib.Core.Option.{Option, none, some}
 use Prim.Native.Nat.{ℕ, zero, suc, _+_, _-_, _≤_, _<_}
 use native.Mathlib.Omega.{arith}
-use borrow.Author.Tests.{lt-ltb, ne-eqb}
+use borrow.Author.Tests.{lt-ltb, le-ltb, ne-eqb}
+use lib.Dec.{ltb}
 use lib.ListN.{length, getD, take, replicate}
 use lib.Seq.{ext-getD, getD-take, length-take-le}
-use Rattle.lists.specs.Lists.{listOf}
+use Rattle.lists.specs.Lists.{all, listOf}
 use Rattle.lists.specs.Entries.{length-listOf, getD-listOf}
 use Rattle.field.specs.Field.{blank}
 use Rattle.sizes.specs.Sizes.{blocks, refusal}
@@ -16,8 +18,8 @@ use Rattle.messages.specs.Messages.{readPoint, said, from, laid, heardOfAll}
 use Rattle.messages.specs.Laws.{said-laid, from-place, from-heard, heard-same}
 use Rattle.codeword.specs.Codeword.{values}
 use Rattle.codeword.specs.Apart.{length-values}
-use Rattle.dissemination.specs.Dissemination.{spoken, pointsIn, pointAt, points, keptPoint, keptAt, keptPoints, roundRefusal, kept}
-use Rattle.dissemination.specs.Kept.{kept-same}
+use Rattle.dissemination.specs.Dissemination.{spoken, pointsIn, pointAt, points, keptPoint, keptAt, keptPoints, isBlock, byteAt, recordOf, roundRefusal, kept}
+use Rattle.dissemination.specs.Kept.{kept-same, kept-reads}
 
 -- SPEAKING OR NOT
 
@@ -97,3 +99,35 @@ module _ (n m own : ℕ) (speaks : Bool) (bytes inbox : List ℕ) (r : ℕ) (e :
   pub kept-done : (all : List ℕ) → r ≡ 0 → all ≡ keptPoints n m own speaks bytes inbox → record { refusal = 0; points = all } ≡ kept n m own speaks bytes inbox
   unfolding kept
   kept-done all z f = rw (← e, z, f) refl
+
+-- THE RANGES OF WHAT A COLUMN KEEPS
+
+module _ (n m own : ℕ) (speaks : Bool) (bytes inbox : List ℕ) (k : ℕ) (h : k < 32) where
+  -- a kept point is a point or blank
+  pub keptPoints-read : readPoint (getD (keptPoints n m own speaks bytes inbox) k blank) ≡ getD (keptPoints n m own speaks bytes inbox) k blank
+  unfolding keptPoints keptAt readPoint
+  keptPoints-read = rw (getD-listOf (keptAt n m own speaks bytes inbox) 32 k blank h) (go (ltb k (blocks n m)))
+    where
+      p : ℕ
+      p = keptPoint n (pointsIn own (points n m speaks bytes own) (blocks n m) inbox k)
+
+      go : (b : Bool) → readPoint (cond b p blank) ≡ cond b p blank
+      go true = kept-reads n (pointsIn own (points n m speaks bytes own) (blocks n m) inbox k)
+      go false = refl
+
+  -- and blank past the blocks
+  pub keptPoints-past : blocks n m ≤ k → getD (keptPoints n m own speaks bytes inbox) k blank ≡ blank
+  unfolding keptPoints keptAt
+  keptPoints-past l = getD-listOf (keptAt n m own speaks bytes inbox) 32 k blank h ∙ rw (le-ltb k (blocks n m) l)
+
+-- a decoded record has zeros past m
+pub record-past : (n m : ℕ) (received : ℕ → ℕ → ℕ) (r : List ℕ) (p : ℕ) → recordOf n m received ≡ some r → m ≤ p → p < 32 → getD r p 0 ≡ 0
+unfolding recordOf byteAt
+record-past n m received r p e h l = go (all (isBlock n m received) (blocks n m)) e
+  where
+    zero-there : getD (listOf (byteAt n m received) 32) p 0 ≡ 0
+    zero-there = getD-listOf (byteAt n m received) 32 p 0 l ∙ rw (le-ltb p m h)
+
+    go : (b : Bool) → _≡_ {A = Option (List ℕ)} (cond b (some (listOf (byteAt n m received) 32)) none) (some r) → getD r p 0 ≡ 0
+    go true q = let s : listOf (byteAt n m received) 32 ≡ r = cc in rw s at zero-there
+    go false q = let z : _≡_ {A = ℕ} 0 1 = cc in absurd (omega arith)

@@ -2,16 +2,17 @@
 use mathlib.Core.Path.{_≡_, refl, sym, ap, _∙_}
 use mathlib.Core.Bool.{Bool, true, false, cond}
 use mathlib.Core.Logic.{_⊎_, inl, inr}
-use Prim.Native.Nat.{ℕ, zero, suc, _-_, _≤_, _<_}
+use Prim.Native.Nat.{ℕ, zero, suc, _+_, _-_, _≤_, _<_}
 use native.Mathlib.Omega.{arith}
 use borrow.Author.Tests.{leb-true, le-leb, lt-leb, eq-eqb, ne-eqb}
 use lib.Dec.{T, leb, eqb, eqb→eq}
 use Rattle.lists.specs.Tests.{passes, either-lt}
 use Rattle.lists.specs.Count.{none, count-same}
 use Rattle.field.specs.Field.{blank}
+use Rattle.sizes.specs.Sizes.{faults}
 use Rattle.messages.specs.Messages.{readBit, times}
 use Rattle.messages.specs.Laws.{bit-is, bit-or-blank, same-bit}
-use Rattle.king.specs.King.{bits, chosen, word, crowned}
+use Rattle.king.specs.King.{bits, chosen, proposal, settled, word, crowned}
 
 -- READING AND COUNTING BITS
 
@@ -71,6 +72,21 @@ module _ (n need : ℕ) (R : ℕ → ℕ) (other : ℕ) where
   unfolding chosen
   chosen-lt k h l = either-lt (leb need (times (bits R) 1 n)) 1 (cond (leb need (times (bits R) 0 n)) 0 other) k h
       (either-lt (leb need (times (bits R) 0 n)) 0 other k (omega arith) l)
+
+-- what is proposed is a bit or blank: it reads as itself
+pub proposal-reads : (n : ℕ) (votes : ℕ → ℕ) → readBit (proposal n votes) ≡ proposal n votes
+unfolding proposal chosen readBit
+proposal-reads n votes = go (leb (n - faults n) (times (bits votes) 1 n)) (leb (n - faults n) (times (bits votes) 0 n))
+  where
+    go : (p q : Bool) → readBit (cond p 1 (cond q 0 blank)) ≡ cond p 1 (cond q 0 blank)
+    go true q = refl
+    go false true = refl
+    go false false = refl
+
+-- a vote stays a bit
+pub settled-bit : (n : ℕ) (proposals : ℕ → ℕ) (vote : ℕ) → vote < 2 → settled n proposals vote < 2
+unfolding settled
+settled-bit n proposals vote h = chosen-lt n (faults n + 1) proposals vote 2 (omega arith) h
 
 -- a king's word is its vote
 pub word-king : (king own vote : ℕ) → own ≡ king → word king own vote ≡ vote

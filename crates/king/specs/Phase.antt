@@ -15,7 +15,7 @@ use Rattle.messages.specs.Messages.{times}
 use Rattle.messages.specs.Wall.{Wall, Sound}
 use Rattle.messages.specs.Quorums.{faults-few, heard-most, heard-least, unheard, same-heard}
 use Rattle.king.specs.King.{bits, proposal, settled, firm, word, crowned}
-use Rattle.king.specs.Laws.{bits-same, bits-is, bits-only, chosen-is, chosen-only, chosen-lt, word-king, crowned-is, crowned-firm, crowned-bit}
+use Rattle.king.specs.Laws.{bits-same, bits-is, bits-only, chosen-is, chosen-only, settled-bit, word-king, crowned-is, crowned-firm, crowned-bit}
 
 -- What sound columns do in a phase, from the votes v to the votes v′: `votes i j` is what i received from j, and so on. Of what unsound
 -- columns send nothing is said.
@@ -96,10 +96,7 @@ module _ {n : ℕ} {H : ℕ → Bool} (W : Wall n H) {king : ℕ} {v v′ : ℕ 
 
   module _ (are-bits : (i : ℕ) → Sound n H i → v i ≤ 1) where
     pub between-bits : (i : ℕ) → Sound n H i → K .between i ≤ 1
-    unfolding settled
-    between-bits i si =
-        let small : settled n (K .proposals i) (v i) < 2 = chosen-lt n (faults n + 1) (K .proposals i) (v i) 2 (omega arith) (omega (arith, are-bits i si)) in
-        omega (arith, K .settles i si, small)
+    between-bits i si = omega (arith, K .settles i si, settled-bit n (K .proposals i) (v i) (omega (arith, are-bits i si)))
 
     -- where one sound column is firm, all settle on its vote
     firm-spreads : (i j : ℕ) → Sound n H i → Sound n H j → T (firm n (K .proposals i) (K .between i)) → K .between j ≡ K .between i

@@ -30,6 +30,10 @@ blocks-le n m = go (eq-zero-or-pos m)
     go (inl z) = omega (arith, div-eq-of-lt {n = m + degree n} {m = degree n + 1} (omega arith))
     go (inr p) = div-le-of-le-mul (degree n + 1) (omega (arith, mul-le-mul-left (degree n) p))
 
+pub rounds-are : (n : ℕ) → rounds n ≡ 3 * faults n + 8
+unfolding rounds
+rounds-are n = refl
+
 -- THE SIZES OF A WALL
 
 -- n columns and records of m bytes
@@ -77,7 +81,7 @@ sized n m r =
       blocks-least = omega (arith, div-mul-le-self (m + degree n) (degree n + 1));
       blocks-low = le-div-iff-mul-le {k = degree n + 1} {x = 1} {y = m + degree n} (omega arith) .1 (omega arith);
       blocks-high = blocks-le n m;
-      rounds-is = refl;
+      rounds-is = rounds-are n;
       line-is = refl;
     }
 
@@ -145,7 +149,7 @@ inside low high x = go (ltb x low) refl
     go true e h = absurd (true≢false h)
     go false e h = (ltb-false x low e, ltb-false high x h)
 
-not-outside : (low high x : ℕ) → low ≤ x → x ≤ high → outside low high x ≡ false
+pub not-outside : (low high x : ℕ) → low ≤ x → x ≤ high → outside low high x ≡ false
 unfolding outside
 not-outside low high x l h = simp (le-ltb x low l, le-ltb high x h)
 

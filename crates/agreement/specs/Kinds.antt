@@ -1,0 +1,107 @@
+-- Which round is of which kind, and that the last is the only one of its kind.
+use mathlib.Core.Path.{_≡_, refl, sym, ap, _∙_}
+use mathlib.Core.Logic.{_⊎_, inl, inr}
+use mathlib.Core.Bool.{Bool, true, false, cond, true≢false}
+use Prim.Native.Nat.{ℕ, suc, _+_, _-_, _*_, _/_, _%_, _≤_, _<_}
+use native.Mathlib.Nat.{eq-or-lt-of-le}
+use native.Mathlib.Omega.{arith}
+use borrow.Author.Tests.{ltb-false, lt-ltb, le-ltb, eqb-false, eq-eqb, ne-eqb}
+use lib.Dec.{eqb, ltb}
+use Rattle.sizes.specs.Sizes.{rounds}
+use Rattle.sizes.specs.Laws.{rounds-are}
+use Rattle.king.specs.King.{phases}
+use Rattle.agreement.specs.declared.Kind.{Kind}
+use Rattle.agreement.specs.declared.Kind.the-variants.{Exchange, FirstReport, SecondReport, Votes, Proposals, King, Points, KeptPoints}
+use Rattle.agreement.specs.Rounds.{kingRound, laterRound, kindOf}
+
+-- "A run has 3t + 8 rounds": three of dispersal, three of each phase, two of dissemination
+pub rounds-of : (n : ℕ) → rounds n ≡ 3 * phases n + 5
+unfolding phases
+rounds-of n = omega (arith, rounds-are n)
+
+module _ (n round : ℕ) where
+  later : 4 ≤ round → kindOf n round ≡ laterRound (3 * phases n) (round - 4)
+  unfolding kindOf
+  later h = simp (ne-eqb round 1 (omega arith), ne-eqb round 2 (omega arith), ne-eqb round 3 (omega arith))
+
+  in-phase : (q : ℕ) → q < 3 * phases n → round ≡ q + 4 → kindOf n round ≡ kingRound q
+  unfolding laterRound
+  in-phase q h e =
+      let z : round - 4 ≡ q = omega arith in
+      later (omega arith) ∙ rw (z, lt-ltb q (3 * phases n) h)
+
+  -- phase p + 1, of king p + 1
+  module _ (p : ℕ) (h : p < phases n) where
+    pub kind-votes : round ≡ 3 * p + 4 → kindOf n round ≡ Votes
+    unfolding kingRound
+    kind-votes e =
+        let a : 3 * p % 3 ≡ 0 = omega arith in
+        in-phase (3 * p) (omega arith) e ∙ rw a
+
+    pub kind-proposals : round ≡ 3 * p + 5 → kindOf n round ≡ Proposals
+    unfolding kingRound
+    kind-proposals e =
+        let a : (3 * p + 1) % 3 ≡ 1 = omega arith in
+        in-phase (3 * p + 1) (omega arith) (omega arith) ∙ rw a
+
+    pub kind-king : round ≡ 3 * p + 6 → kindOf n round ≡ King (suc p)
+    unfolding kingRound
+    kind-king e =
+        let a : (3 * p + 2) % 3 ≡ 2 = omega arith in
+        let b : (3 * p + 2) / 3 + 1 ≡ suc p = omega arith in
+        in-phase (3 * p + 2) (omega arith) (omega arith) ∙ rw (a, b)
+
+  pub kind-points : round ≡ 3 * phases n + 4 → kindOf n round ≡ Points
+  unfolding laterRound
+  kind-points e =
+      let z : round - 4 ≡ 3 * phases n = omega arith in
+      later (omega arith) ∙ rw (z, le-ltb (3 * phases n) (3 * phases n) (omega arith), eq-eqb (3 * phases n) (3 * phases n) refl)
+
+  pub kind-kept : round ≡ 3 * phases n + 5 → kindOf n round ≡ KeptPoints
+  unfolding laterRound
+  kind-kept e =
+      let z : round - 4 ≡ 3 * phases n + 1 = omega arith in
+      later (omega arith) ∙ rw (z, le-ltb (3 * phases n + 1) (3 * phases n) (omega arith), ne-eqb (3 * phases n + 1) (3 * phases n) (omega arith))
+
+-- a round of the kind ends the run
+unfoldable pub ends : Kind → Bool
+ends Exchange = false
+ends FirstReport = false
+ends SecondReport = false
+ends Votes = false
+ends Proposals = false
+ends (King king) = false
+ends Points = false
+ends KeptPoints = true
+
+-- only the last round does
+pub goes-on : (n round : ℕ) → round ≤ 3 * phases n + 4 → ends (kindOf n round) ≡ false
+unfolding kindOf laterRound kingRound ends
+goes-on n round h = go (eqb round 1) (eqb round 2) (eqb round 3)
+  where
+    q : ℕ
+    q = round - 4
+
+    king : (a b : Bool) → ends (cond a Votes (cond b Proposals (King (q / 3 + 1)))) ≡ false
+    king true b = refl
+    king false true = refl
+    king false false = refl
+
+    last : (a b : Bool) → ltb q (3 * phases n) ≡ a → eqb q (3 * phases n) ≡ b → ends (cond a (kingRound q) (cond b Points KeptPoints)) ≡ false
+    last true b ea eb = king (eqb (q % 3) 0) (eqb (q % 3) 1)
+    last false true ea eb = refl
+    last false false ea eb = absurd (omega (arith, ltb-false q (3 * phases n) ea, eqb-false q (3 * phases n) eb))
+
+    go : (a b c : Bool) → ends (cond a Exchange (cond b FirstReport (cond c SecondReport (laterRound (3 * phases n) q)))) ≡ false
+    go true b c = refl
+    go false true c = refl
+    go false false true = refl
+    go false false false = last (ltb q (3 * phases n)) (eqb q (3 * phases n)) refl refl
+
+pub before-last : (n round : ℕ) → round ≤ rounds n → ends (kindOf n round) ≡ false → round < rounds n
+unfolding ends
+before-last n round h e = go (eq-or-lt-of-le h)
+  where
+    go : (round ≡ rounds n) ⊎ (round < rounds n) → round < rounds n
+    go (inl q) = absurd (true≢false (sym (ap ends (kind-kept n round (q ∙ rounds-of n))) ∙ e))
+    go (inr q) = q

@@ -1,0 +1,167 @@
+-- No call leaves a state that a later one would refuse with 11.
+use mathlib.Core.Path.{_≡_, refl, sym, ap, _∙_}
+use mathlib.Core.Logic.{_⊎_, inl, inr}
+use mathlib.Core.Bool.{Bool, true, false, not, _&&_, _||_, cond}
+use mathlib.Core.List.{List}
+use mathlib.Core.Option.{Option, none, some}
+use Prim.Native.Nat.{ℕ, zero, suc, _+_, _≤_, _<_}
+use native.Mathlib.Omega.{arith}
+use native.Mathlib.Decide.{decLt}
+use borrow.Author.Tests.{ltb-true, eqb-true, le-ltb, eq-eqb}
+use lib.Dec.{T, eqb, ltb, lt→ltb, ltb→lt, eqb→eq}
+use lib.ListN.{getD, replicate, length, getD-replicate, List·getD-eq-default}
+use Rattle.lists.specs.Lists.{bit, all}
+use Rattle.lists.specs.Tests.{and-left, and-right, and-both, conj, or-left, or-right, is-true, eq→eqb}
+use Rattle.lists.specs.Entries.{each-all}
+use Rattle.field.specs.Field.{blank}
+use Rattle.block.specs.Block.{part}
+use Rattle.block.specs.Value.{getD-part}
+use Rattle.sizes.specs.Sizes.{blocks, rounds, outside, refusal}
+use Rattle.sizes.specs.Laws.{rounds-are, not-outside}
+use Rattle.messages.specs.Messages.{readPoint, readBit}
+use Rattle.king.specs.Laws.{proposal-reads, settled-bit, crowned-bit}
+use Rattle.king.specs.King.{phases, proposal, settled, firm, crowned}
+use Rattle.dispersal.specs.Dispersal.{agreements, reports, grade}
+use Rattle.dispersal.specs.Laws.{agreements-past, reports-past, grade-lt}
+use Rattle.dissemination.specs.Dissemination.{keptPoints, recordOf}
+use Rattle.dissemination.specs.Laws.{keptPoints-read, keptPoints-past, record-past}
+use Rattle.agreement.specs.declared.Outcome.the-variants.{Nothing, Record}
+use Rattle.agreement.specs.declared.Stage.{Stage}
+use Rattle.agreement.specs.declared.Stage.the-variants.{Speak, Listen, Ended}
+use Rattle.agreement.specs.declared.Column.{Column}
+use Rattle.agreement.specs.declared.Kind.{Kind}
+use Rattle.agreement.specs.declared.Kind.the-variants.{Exchange, FirstReport, SecondReport, Votes, Proposals, King, Points, KeptPoints}
+use Rattle.agreement.specs.Column.{freshColumn, stageFits, byteFits, flagFits, pointFits, numbersFit, arraysFit, fits}
+use Rattle.agreement.specs.Parts.{withStage, withBytes, withProposal, withAgreements, withReports, withGrade, withVote, withKept}
+use Rattle.agreement.specs.Rounds.{votesOne, spreads, received, kingSaid, graded, firstVote, resettled, outcomeOf, endsOn, goesOn, hears}
+use Rattle.agreement.specs.Kinds.{ends}
+
+ruleset conjunction = (and-left, and-right, and-both)
+
+-- A COLUMN THAT FITS, WITH ONE PART CHANGED
+
+module _ (c : Column) (h : T (fits c)) where
+  pub with-stage : (stage : Stage) → T (stageFits (c .n) stage) → T (fits (withStage stage c))
+  unfolding fits numbersFit arraysFit withStage
+  with-stage stage g = search conjunction
+
+  with-bytes : (bytes : List ℕ) → T (all (byteFits (c .m) bytes) 32) → T (fits (withBytes bytes c))
+  unfolding fits numbersFit arraysFit withBytes
+  with-bytes bytes g = search conjunction
+
+  with-proposal : (v : ℕ) → T (eqb (readBit v) v) → T (fits (withProposal v c))
+  unfolding fits numbersFit arraysFit withProposal
+  with-proposal v g = search conjunction
+
+  with-agreements : (flags : List Bool) → T (all (flagFits (c .n) flags) 31) → T (fits (withAgreements flags c))
+  unfolding fits numbersFit arraysFit withAgreements
+  with-agreements flags g = search conjunction
+
+  with-reports : (flags : List Bool) → T (all (flagFits (c .n) flags) 31) → T (fits (withReports flags c))
+  unfolding fits numbersFit arraysFit withReports
+  with-reports flags g = search conjunction
+
+  with-grade : (v : ℕ) → T (ltb v 3) → T (fits (withGrade v c))
+  unfolding fits numbersFit arraysFit withGrade
+  with-grade v g = search conjunction
+
+  with-vote : (v : ℕ) (sure : Bool) → T (ltb v 2) → T (fits (withVote v sure c))
+  unfolding fits numbersFit arraysFit withVote
+  with-vote v sure g = search conjunction
+
+  with-kept : (points : List ℕ) → T (all (pointFits (blocks (c .n) (c .m)) points) 32) → T (fits (withKept points c))
+  unfolding fits numbersFit arraysFit withKept
+  with-kept points g = search conjunction
+
+  vote-fits : T (ltb (c .vote) 2)
+  unfolding fits numbersFit
+  vote-fits = search conjunction
+
+-- WHAT THE ROUNDS WRITE FITS
+
+-- flags that are not set past n
+flags-fit : (n : ℕ) (flags : List Bool) → ((i : ℕ) → n ≤ i → i < 31 → getD flags i false ≡ false) → T (all (flagFits n flags) 31)
+unfolding flagFits
+flags-fit n flags h = each-all (flagFits n flags) 31 (λ i l. go i l (decLt i n))
+  where
+    go : (i : ℕ) → i < 31 → Dec (i < n) → T (ltb i n || not (getD flags i false))
+    go i l (yes a) = or-left (ltb i n) (not (getD flags i false)) (lt→ltb i n a)
+    go i l (no a) = or-right (ltb i n) (not (getD flags i false)) (rw (h i (omega arith) l) tt)
+
+-- bytes that are 0 past m
+bytes-fit : (m : ℕ) (bytes : List ℕ) → ((p : ℕ) → m ≤ p → p < 32 → getD bytes p 0 ≡ 0) → T (all (byteFits m bytes) 32)
+unfolding byteFits
+bytes-fit m bytes h = each-all (byteFits m bytes) 32 (λ p l. go p l (decLt p m))
+  where
+    go : (p : ℕ) → p < 32 → Dec (p < m) → T (ltb p m || eqb (getD bytes p 0) 0)
+    go p l (yes a) = or-left (ltb p m) (eqb (getD bytes p 0) 0) (lt→ltb p m a)
+    go p l (no a) = or-right (ltb p m) (eqb (getD bytes p 0) 0) (eq→eqb (getD bytes p 0) 0 (h p (omega arith) l))
+
+-- points that read as themselves and are blank past the blocks
+points-fit : (b : ℕ) (kept : List ℕ) → ((k : ℕ) → k < 32 → readPoint (getD kept k blank) ≡ getD kept k blank)
+    → ((k : ℕ) → k < 32 → b ≤ k → getD kept k blank ≡ blank) → T (all (pointFits b kept) 32)
+unfolding pointFits
+points-fit b kept f h =
+    each-all (pointFits b kept) 32 (λ k l.
+    and-both (eqb (readPoint (getD kept k blank)) (getD kept k blank)) (ltb k b || eqb (getD kept k blank) blank)
+    (eq→eqb (readPoint (getD kept k blank)) (getD kept k blank) (f k l)) (go k l (decLt k b)))
+  where
+    go : (k : ℕ) → k < 32 → Dec (k < b) → T (ltb k b || eqb (getD kept k blank) blank)
+    go k l (yes a) = or-left (ltb k b) (eqb (getD kept k blank) blank) (lt→ltb k b a)
+    go k l (no a) = or-right (ltb k b) (eqb (getD kept k blank) blank) (eq→eqb (getD kept k blank) blank (h k l (omega arith)))
+
+bit-fits : (b : Bool) → T (ltb (bit b) 2)
+bit-fits true = tt
+bit-fits false = tt
+
+-- a round of the run
+pub round-fits : (n round : ℕ) → 1 ≤ round → round ≤ rounds n → T (not (outside 1 (rounds n) round))
+round-fits n round l h = rw (not-outside 1 (rounds n) round l h) tt
+
+-- LISTENING
+
+-- a column that ends
+ends-fits : (c : Column) → T (fits c) → (o : Option (List ℕ)) → ((r : List ℕ) (p : ℕ) → o ≡ some r → c .m ≤ p → p < 32 → getD r p 0 ≡ 0) → T (fits (endsOn o c))
+unfolding endsOn stageFits withBytes
+ends-fits c h none z = with-stage c h (Ended Nothing) tt
+ends-fits c h (some r) z = with-stage (withBytes r c) (with-bytes c h r (bytes-fit (c .m) r (λ p. z r p refl))) (Ended Record) tt
+
+-- one that goes on
+goes-fits : (round : ℕ) (c : Column) → round < rounds (c .n) → T (fits c) → T (fits (goesOn round c))
+unfolding goesOn stageFits
+goes-fits round c l h = with-stage c h (Speak (round + 1)) (round-fits (c .n) (round + 1) (omega arith) (omega arith))
+
+pub hears-fits : (kind : Kind) (round : ℕ) (c : Column) (inbox : List ℕ) → (ends kind ≡ false → round < rounds (c .n)) → T (fits c) → T (fits (hears kind round c inbox))
+unfolding hears withProposal withAgreements withReports withGrade withVote withKept graded firstVote resettled outcomeOf ends
+hears-fits Exchange round c inbox l h =
+    goes-fits round _ (l refl) (with-agreements c h _ (flags-fit (c .n) _ (agreements-past (c .n) (c .m) (c .own) (c .bytes) inbox)))
+hears-fits FirstReport round c inbox l h = goes-fits round _ (l refl) (with-reports c h _ (flags-fit (c .n) _ (reports-past (c .n) (received FirstReport c inbox))))
+hears-fits SecondReport round c inbox l h =
+    goes-fits round _ (l refl) (with-grade _ (with-vote c h (firstVote (graded c inbox)) (c .firm) (bit-fits (eqb (graded c inbox) 2))) _ (lt→ltb (graded c inbox) 3 (grade-lt _ _ _ _ _)))
+hears-fits Votes round c inbox l h = goes-fits round _ (l refl) (with-proposal c h _ (eq→eqb _ _ (proposal-reads (c .n) (received Votes c inbox))))
+hears-fits Proposals round c inbox l h =
+    goes-fits round _ (l refl) (with-vote c h _ _ (lt→ltb (resettled c inbox) 2 (settled-bit (c .n) (received Proposals c inbox) (c .vote) (ltb→lt (c .vote) 2 (vote-fits c h)))))
+hears-fits (King king) round c inbox l h =
+    let vote : ℕ = crowned (c .firm) (c .vote) (kingSaid king c inbox) in
+    let small : vote ≤ 1 = crowned-bit (c .firm) (c .vote) (kingSaid king c inbox) (omega (arith, ltb→lt (c .vote) 2 (vote-fits c h))) in
+    goes-fits round _ (l refl) (with-vote c h vote (c .firm) (lt→ltb vote 2 (omega arith)))
+hears-fits Points round c inbox l h =
+    goes-fits round _ (l refl) (with-kept c h _ (points-fit (blocks (c .n) (c .m)) _ (keptPoints-read (c .n) (c .m) (c .own) (spreads c) (c .bytes) inbox) (keptPoints-past (c .n) (c .m) (c .own) (spreads c) (c .bytes) inbox)))
+hears-fits KeptPoints round c inbox l h = ends-fits c h (outcomeOf c inbox) (decoded-past (votesOne c) _)
+  where
+    decoded-past : (b : Bool) (received : ℕ → ℕ → ℕ) (r : List ℕ) (p : ℕ) → _≡_ {A = Option (List ℕ)} (cond b (recordOf (c .n) (c .m) received) none) (some r) → c .m ≤ p → p < 32 → getD r p 0 ≡ 0
+    decoded-past true received r p e u v = record-past (c .n) (c .m) received r p e u v
+    decoded-past false received r p e u v = let z : _≡_ {A = ℕ} 0 1 = cc in absurd (omega arith)
+
+-- A FRESH COLUMN
+
+pub fresh-fits : (n m own : ℕ) (bytes : List ℕ) → refusal n m own ≡ 0 → length bytes ≡ m → T (fits (freshColumn n m own bytes))
+unfolding fits numbersFit arraysFit freshColumn stageFits readBit readPoint
+fresh-fits n m own bytes e h =
+    let sizes : T (eqb (refusal n m own) 0) = eq→eqb (refusal n m own) 0 e in
+    let stage : T (not (outside 1 (rounds n) 1)) = round-fits n 1 (omega arith) (omega (arith, rounds-are n)) in
+    let record-fits : T (all (byteFits m (part bytes 0 32)) 32) = bytes-fit m (part bytes 0 32) (λ p l u.
+        getD-part bytes 0 32 p u ∙ List·getD-eq-default bytes 0 {n = 0 + p} (omega arith)) in
+    let flags : T (all (flagFits n (replicate 31 false)) 31) = flags-fit n (replicate 31 false) (λ i l u. getD-replicate 31 i false false u) in
+    let points : T (all (pointFits (blocks n m) (replicate 32 blank)) 32) = points-fit (blocks n m) (replicate 32 blank) (λ k u. rw (getD-replicate 32 k blank blank u) refl) (λ k u l. getD-replicate 32 k blank blank u) in
+    search conjunction

@@ -1,6 +1,6 @@
 -- The definitions of the calls: for every input the refusal, the state after the call and the lent slice after it. Document 01, "Refusals
 -- from the input" and "Refusals from the state".
-use mathlib.Core.Bool.{Bool, cond}
+use mathlib.Core.Bool.{cond}
 use mathlib.Core.List.{List, []}
 use mathlib.Core.Option.{Option, none, some}
 use Prim.Native.Nat.{ℕ}

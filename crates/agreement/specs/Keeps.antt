@@ -1,15 +1,14 @@
 -- What listening leaves as it was.
 use mathlib.Core.Path.{_≡_, refl}
-use mathlib.Core.Bool.{Bool, true, false, true≢false}
+use mathlib.Core.Bool.{false, true≢false}
 use mathlib.Core.List.{List}
-use mathlib.Core.Option.{Option, none, some}
 use Prim.Native.Nat.{ℕ, _+_}
 use Rattle.agreement.specs.declared.Stage.the-variants.{Speak}
 use Rattle.agreement.specs.declared.Column.{Column}
 use Rattle.agreement.specs.declared.Kind.{Kind}
 use Rattle.agreement.specs.declared.Kind.the-variants.{Exchange, FirstReport, SecondReport, Votes, Proposals, King, Points, KeptPoints}
-use Rattle.agreement.specs.Parts.{withStage, withBytes, withProposal, withAgreements, withReports, withGrade, withVote, withKept}
-use Rattle.agreement.specs.Rounds.{outcomeOf, endsOn, goesOn, hears}
+use Rattle.agreement.specs.Parts.{withStage, withProposal, withAgreements, withReports, withGrade, withVote, withKept}
+use Rattle.agreement.specs.Rounds.{goesOn, hears}
 use Rattle.agreement.specs.Kinds.{ends}
 
 -- a column is of n columns and m bytes, has the number `own` and holds the record `bytes`

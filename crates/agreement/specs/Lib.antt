@@ -7,4 +7,7 @@ pub mod Claim
 pub mod Kinds
 pub mod Keeps
 pub mod Ranges
+pub mod Turns
 pub mod Course
+pub mod Walk
+pub mod Protocols

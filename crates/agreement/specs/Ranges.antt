@@ -1,17 +1,15 @@
 -- No call leaves a state that a later one would refuse with 11.
-use mathlib.Core.Path.{_≡_, refl, sym, ap, _∙_}
-use mathlib.Core.Logic.{_⊎_, inl, inr}
-use mathlib.Core.Bool.{Bool, true, false, not, _&&_, _||_, cond}
+use mathlib.Core.Path.{_≡_, refl, _∙_}
+use mathlib.Core.Bool.{Bool, true, false, not, _||_, cond}
 use mathlib.Core.List.{List}
 use mathlib.Core.Option.{Option, none, some}
-use Prim.Native.Nat.{ℕ, zero, suc, _+_, _≤_, _<_}
+use Prim.Native.Nat.{ℕ, _+_, _≤_, _<_}
 use native.Mathlib.Omega.{arith}
 use native.Mathlib.Decide.{decLt}
-use borrow.Author.Tests.{ltb-true, eqb-true, le-ltb, eq-eqb}
-use lib.Dec.{T, eqb, ltb, lt→ltb, ltb→lt, eqb→eq}
+use lib.Dec.{T, eqb, ltb, lt→ltb, ltb→lt}
 use lib.ListN.{getD, replicate, length, getD-replicate, List·getD-eq-default}
 use Rattle.lists.specs.Lists.{bit, all}
-use Rattle.lists.specs.Tests.{and-left, and-right, and-both, conj, or-left, or-right, is-true, eq→eqb}
+use Rattle.lists.specs.Tests.{and-left, and-right, and-both, or-left, or-right, eq→eqb}
 use Rattle.lists.specs.Entries.{each-all}
 use Rattle.field.specs.Field.{blank}
 use Rattle.block.specs.Block.{part}
@@ -20,14 +18,13 @@ use Rattle.sizes.specs.Sizes.{blocks, rounds, outside, refusal}
 use Rattle.sizes.specs.Laws.{rounds-are, not-outside}
 use Rattle.messages.specs.Messages.{readPoint, readBit}
 use Rattle.king.specs.Laws.{proposal-reads, settled-bit, crowned-bit}
-use Rattle.king.specs.King.{phases, proposal, settled, firm, crowned}
-use Rattle.dispersal.specs.Dispersal.{agreements, reports, grade}
+use Rattle.king.specs.King.{firm, crowned}
 use Rattle.dispersal.specs.Laws.{agreements-past, reports-past, grade-lt}
-use Rattle.dissemination.specs.Dissemination.{keptPoints, recordOf}
+use Rattle.dissemination.specs.Dissemination.{recordOf}
 use Rattle.dissemination.specs.Laws.{keptPoints-read, keptPoints-past, record-past}
 use Rattle.agreement.specs.declared.Outcome.the-variants.{Nothing, Record}
 use Rattle.agreement.specs.declared.Stage.{Stage}
-use Rattle.agreement.specs.declared.Stage.the-variants.{Speak, Listen, Ended}
+use Rattle.agreement.specs.declared.Stage.the-variants.{Speak, Ended}
 use Rattle.agreement.specs.declared.Column.{Column}
 use Rattle.agreement.specs.declared.Kind.{Kind}
 use Rattle.agreement.specs.declared.Kind.the-variants.{Exchange, FirstReport, SecondReport, Votes, Proposals, King, Points, KeptPoints}
@@ -161,7 +158,7 @@ fresh-fits n m own bytes e h =
     let sizes : T (eqb (refusal n m own) 0) = eq→eqb (refusal n m own) 0 e in
     let stage : T (not (outside 1 (rounds n) 1)) = round-fits n 1 (omega arith) (omega (arith, rounds-are n)) in
     let record-fits : T (all (byteFits m (part bytes 0 32)) 32) = bytes-fit m (part bytes 0 32) (λ p l u.
-        getD-part bytes 0 32 p u ∙ List·getD-eq-default bytes 0 {n = 0 + p} (omega arith)) in
+    getD-part bytes 0 32 p u ∙ List·getD-eq-default bytes 0 {n = 0 + p} (omega arith)) in
     let flags : T (all (flagFits n (replicate 31 false)) 31) = flags-fit n (replicate 31 false) (λ i l u. getD-replicate 31 i false false u) in
     let points : T (all (pointFits (blocks n m) (replicate 32 blank)) 32) = points-fit (blocks n m) (replicate 32 blank) (λ k u. rw (getD-replicate 32 k blank blank u) refl) (λ k u l. getD-replicate 32 k blank blank u) in
     search conjunction

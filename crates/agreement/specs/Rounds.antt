@@ -5,7 +5,7 @@ use mathlib.Core.Option.{Option, none, some}
 use Prim.Native.Nat.{ℕ, _+_, _-_, _*_, _/_, _%_}
 use lib.Dec.{eqb, ltb, leb}
 use Rattle.lists.specs.Lists.{bit, rowsOf}
-use Rattle.sizes.specs.Sizes.{faults, blocks, values}
+use Rattle.sizes.specs.Sizes.{blocks, values}
 use Rattle.messages.specs.Messages.{said, from, heard, heardOfAll}
 use Rattle.king.specs.King.{phases, proposal, settled, firm, word, crowned}
 use Rattle.dispersal.specs.Dispersal.{exchange, agreements, agrees, firstReport, reports, reported, secondReport, grade}

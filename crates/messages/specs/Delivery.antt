@@ -1,12 +1,12 @@
 -- What a sound column hears of a sound one is what that one sent it; its own place is what it would send itself.
-use mathlib.Core.Path.{_≡_, refl, sym, ap, _∙_}
+use mathlib.Core.Path.{_≡_, refl, sym, ap, subst, _∙_}
 use mathlib.Core.Bool.{Bool, true, false}
 use mathlib.Core.List.{List, [], _∷_}
 use Prim.Native.Nat.{ℕ, _<_}
 use native.Mathlib.Omega.{arith}
 use borrow.Author.Tests.{eqb-true, eqb-false}
 use lib.Dec.{eqb}
-use Rattle.lists.specs.Lists.{rowsOf}
+use Rattle.lists.specs.Lists.{rowsOf, inRow}
 use Rattle.lists.specs.Rows.{inRow-rowsOf}
 use Rattle.field.specs.Field.{blank}
 use Rattle.messages.specs.Messages.{said, from, toAll, heard, heardOfAll}
@@ -33,3 +33,11 @@ pub heard-value : (n : ℕ) (H : ℕ → Bool) (sent : ℕ → ℕ) (inbox : ℕ
 unfolding toAll said
 heard-value n H sent inbox W d i j si sj =
     from-heard i (sent i ∷ []) 1 (inbox i) n 0 j (sj .0) (sj .1) (W .high) ∙ heard-message n 1 H (λ j i. sent j ∷ []) inbox d i j 0 si sj (omega arith)
+
+-- what was delivered, told otherwise
+pub delivered-as : (n : ℕ) (H : ℕ → Bool) (w w′ : ℕ) (out out′ inbox : ℕ → List ℕ) → w ≡ w′ → ((j : ℕ) → Sound n H j → out j ≡ out′ j)
+    → Delivered n H w out inbox → Delivered n H w′ out′ inbox
+unfolding Delivered
+delivered-as n H w w′ out out′ inbox e f d i j k si sj ne l =
+    subst (λ (w : ℕ). k < w → inRow w (inbox i) j k blank ≡ inRow w (out′ j) i k blank) e
+    (λ l. d i j k si sj ne l ∙ ap (λ (s : List ℕ). inRow w s i k blank) (f j sj)) l

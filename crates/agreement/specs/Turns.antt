@@ -1,0 +1,85 @@
+-- One call: what is refused changes nothing, and what is in turn is not refused.
+use mathlib.Core.Path.{_≡_, refl, sym, ap, _∙_}
+use mathlib.Core.Bool.{Bool, true, false, not, _||_, cond}
+use mathlib.Core.List.{List}
+use Prim.Native.Nat.{ℕ, _*_}
+use borrow.Author.Tests.{eqb-true}
+use lib.Dec.{T, eqb}
+use lib.ListN.{length}
+use Rattle.lists.specs.Tests.{is-true}
+use Rattle.sizes.specs.Sizes.{values}
+use Rattle.messages.specs.Messages.{refusal}
+use Rattle.messages.specs.Laws.{not-refused, if-done}
+use Rattle.agreement.specs.declared.Stage.{Stage}
+use Rattle.agreement.specs.declared.Stage.the-variants.{Speak, Listen}
+use Rattle.agreement.specs.declared.Column.{Column}
+use Rattle.agreement.specs.declared.Answer.the-variants.{Done, Refused}
+use Rattle.agreement.specs.Column.{fits}
+use Rattle.agreement.specs.Parts.{withStage}
+use Rattle.agreement.specs.Rounds.{kindOf, outgoing, hears}
+use Rattle.agreement.specs.Calls.{refusalOf, answerOf, answered, roundOf, whenSpeaking, whenListening, inState, inRound, speakRefusal, speak, written, listenRefusal, listen, outcome}
+use Rattle.agreement.specs.Claim.{Call, Speaks, Listens, Asks, refusalAt, after, asks}
+
+-- A CALL THAT IS REFUSED OR NOT
+
+answer-is : (why : ℕ) → refusalOf (answerOf why) ≡ why
+unfolding refusalOf answerOf
+answer-is why = go (eqb why 0) refl
+  where
+    go : (b : Bool) → eqb why 0 ≡ b → refusalOf (cond b Done (Refused why)) ≡ why
+    go true e = sym (eqb-true why 0 e)
+    go false e = refl
+
+-- CALLS THAT CHANGE NOTHING
+
+refused-keeps : (why : ℕ) (done before : Column) → T (not (eqb (refusalOf (answerOf why)) 0)) → cond (eqb why 0) done before ≡ before
+refused-keeps why done before h = go (eqb why 0) (rw (answer-is why) at h)
+  where
+    go : (b : Bool) → T (not b) → cond b done before ≡ before
+    go true h = absurd h
+    go false h = refl
+
+-- a call for the outcome, or one that is refused
+pub extra-keeps : (c : Column) (call : Call) → T (asks call || not (eqb (refusalAt c call) 0)) → after c call ≡ c
+unfolding asks refusalAt after speak listen outcome answered
+extra-keeps c (Speaks out) h = refused-keeps (speakRefusal c (length out)) (withStage (Listen (roundOf (c .stage))) c) c h
+extra-keeps c (Listens inbox) h = refused-keeps (listenRefusal c (length inbox)) (hears (kindOf (c .n) (roundOf (c .stage))) (roundOf (c .stage)) c inbox) c h
+extra-keeps c Asks h = refl
+
+-- CALLS IN TURN
+
+module _ (c : Column) (round : ℕ) (h : T (fits c)) where
+  -- the refusal of a call that is in turn, with a slice of the required length
+  in-turn : (when : Stage → ℕ) (stage : Stage) (len : ℕ) → c .stage ≡ stage → when stage ≡ 0 → len ≡ c .n * values (c .n) (c .m) (roundOf stage) → inRound c (when (c .stage)) len ≡ 0
+  unfolding inRound inState
+  in-turn when stage len e z l =
+      ap (λ (s : Stage). refusal (cond (fits c) (when s) 11) (c .n) (values (c .n) (c .m) (roundOf s)) len) e
+      ∙ not-refused (cond (fits c) (when stage) 11) (c .n) (values (c .n) (c .m) (roundOf stage)) len (rw (is-true (fits c) h, z) refl) l
+
+  -- to speak
+  module _ (out : List ℕ) (e : c .stage ≡ Speak round) (l : length out ≡ c .n * values (c .n) (c .m) round) where
+    may-speak : speakRefusal c (length out) ≡ 0
+    unfolding speakRefusal whenSpeaking roundOf
+    may-speak = in-turn whenSpeaking (Speak round) (length out) e refl l
+
+    pub spoke : (refusalAt c (Speaks out) ≡ 0) × (after c (Speaks out) ≡ withStage (Listen round) c) × (written c out ≡ outgoing c round)
+    unfolding refusalAt after speak answered written roundOf
+    spoke = (
+      answer-is (speakRefusal c (length out)) ∙ may-speak,
+      ap (λ (why : ℕ). cond (eqb why 0) (withStage (Listen (roundOf (c .stage))) c) c) may-speak ∙ ap (λ (s : Stage). withStage (Listen (roundOf s)) c) e,
+      if-done (speakRefusal c (length out)) (outgoing c (roundOf (c .stage))) out may-speak ∙ ap (λ (s : Stage). outgoing c (roundOf s)) e,
+    )
+
+  -- to listen
+  module _ (inbox : List ℕ) (e : c .stage ≡ Listen round) (l : length inbox ≡ c .n * values (c .n) (c .m) round) where
+    may-listen : listenRefusal c (length inbox) ≡ 0
+    unfolding listenRefusal whenListening roundOf
+    may-listen = in-turn whenListening (Listen round) (length inbox) e refl l
+
+    pub listened : (refusalAt c (Listens inbox) ≡ 0) × (after c (Listens inbox) ≡ hears (kindOf (c .n) round) round c inbox)
+    unfolding refusalAt after listen answered roundOf
+    listened = (
+      answer-is (listenRefusal c (length inbox)) ∙ may-listen,
+      ap (λ (why : ℕ). cond (eqb why 0) (hears (kindOf (c .n) (roundOf (c .stage))) (roundOf (c .stage)) c inbox) c) may-listen
+          ∙ ap (λ (s : Stage). hears (kindOf (c .n) (roundOf s)) (roundOf s) c inbox) e,
+    )

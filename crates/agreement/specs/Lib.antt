@@ -11,3 +11,4 @@ pub mod Turns
 pub mod Course
 pub mod Walk
 pub mod Protocols
+pub mod Decision

@@ -7,7 +7,7 @@ use mathlib.Core.Option.{Option, none, some}
 use Prim.Native.Nat.{ℕ, zero, suc, _+_, _*_, _≤_, _<_}
 use native.Mathlib.Omega.{arith}
 use lib.Dec.{T, eqb, leb}
-use Rattle.lists.specs.Lists.{rowsOf}
+use Rattle.lists.specs.Lists.{count, rowsOf}
 use Rattle.block.specs.Block.{part}
 use Rattle.sizes.specs.Sizes.{faults, blocks, rounds, values}
 use Rattle.sizes.specs.Laws.{values-exchange, values-one, values-blocks}
@@ -22,7 +22,7 @@ use Rattle.dispersal.specs.Dispersal.{exchange, exchanges}
 use Rattle.dispersal.specs.Run.{Graded}
 use Rattle.dispersal.specs.Calls.{firstOf, secondOf, leavesWith, calls-graded}
 use Rattle.dissemination.specs.Dissemination.{spoken, points, pointsToAll, recordOf}
-use Rattle.dissemination.specs.Run.{Consistent}
+use Rattle.dissemination.specs.Run.{inputs}
 use Rattle.dissemination.specs.Calls.{keptOf, receivedLast, calls-consistent}
 use Rattle.agreement.specs.declared.Stage.the-variants.{Listen}
 use Rattle.agreement.specs.declared.Column.{Column}
@@ -253,3 +253,49 @@ module _ {n m : ℕ} {H : ℕ → Bool} {held : ℕ → List ℕ} {inbox : ℕ �
   kept-is i =
       let a = is i spread (omega (arith, rounds-of n)) in
       ap (λ (c : Column). c .kept) (next i spread Points is-points) ∙ rw (a .n-is, a .m-is, a .own-is, a .bytes-is)
+
+  vote-stays : (i : ℕ) → state i (suc spread) .vote ≡ state i spread .vote
+  unfolding hears goesOn withStage withKept
+  vote-stays i = ap (λ (c : Column). c .vote) (next i spread Points is-points)
+
+  points-sent : Delivered n H (blocks n m) (λ j. pointsToAll n m (has j) (bytes j)) (of (suc spread))
+  unfolding message pointsToAll
+  points-sent =
+      sent spread (blocks n m) Points (λ j i. points n m (has j) (bytes j) i) (omega (arith, rounds-of n)) is-points
+      (values-blocks n m (suc spread) (omega arith) (omega (arith, rounds-of n)) (omega (arith, rounds-of n)))
+      (λ j i sj.
+      let a = is j spread (omega (arith, rounds-of n)) in rw (a .n-is, a .m-is, a .bytes-is))
+
+  -- where all sound columns have the vote 1, the kept points are sent
+  kept-sent : ((j : ℕ) → Sound n H j → state j spread .vote ≡ 1)
+      → Delivered n H (blocks n m) (λ j. toAll n (blocks n m) (spoken true (keptOf n m has bytes (of (suc spread)) (of (suc (suc spread))) j))) (of (suc (suc spread)))
+  unfolding message toAll votesOne
+  kept-sent ones =
+      sent (suc spread) (blocks n m) KeptPoints (λ j i. spoken true (keptOf n m has bytes (of (suc spread)) (of (suc (suc spread))) j)) (omega (arith, rounds-of n)) is-kept
+      (values-blocks n m (suc (suc spread)) (omega arith) (omega (arith, rounds-of n)) (omega (arith, rounds-of n)))
+      (λ j i sj. rw (kept-is j, vote-stays j, ones j sj))
+
+  -- what column i ends on
+  unfoldable pub decides : ℕ → Option (List ℕ)
+  decides i = outcomeOf (withStage (Listen (suc (suc spread))) (state i (suc spread))) (inbox i (suc (suc spread)))
+
+  pub last-state : (i : ℕ) → state i (rounds n) ≡ endsOn (decides i) (withStage (Listen (suc (suc spread))) (state i (suc spread)))
+  unfolding hears decides
+  last-state i =
+      let e : rounds n ≡ suc (suc spread) = omega (arith, rounds-of n) in
+      ap (state i) e ∙ next i (suc spread) KeptPoints is-kept
+
+  -- with vote 0 on none
+  pub decides-none : (i : ℕ) → state i spread .vote ≡ 0 → decides i ≡ none
+  unfolding decides outcomeOf withStage votesOne
+  decides-none i e = rw (vote-stays i, e)
+
+  -- THEOREM 3.9, of the columns' states: with vote 1 at all sound columns, on the record that t + 1 of them have for an input, if no sound
+  -- column has another one
+  pub decides-record : ((j : ℕ) → Sound n H j → state j spread .vote ≡ 1) → (r : List ℕ) → Held m r → suc (faults n) ≤ count (inputs H has bytes r) n
+      → ((j : ℕ) → Sound n H j → T (has j) → bytes j ≡ r) → (i : ℕ) → Sound n H i → decides i ≡ some r
+  unfolding decides outcomeOf withStage votesOne message
+  decides-record ones r whole many only i si =
+      let a = is i (suc spread) (omega (arith, rounds-of n)) in
+      rw (vote-stays i, ones i si, a .n-is, a .m-is, a .own-is, kept-is i)
+      (calls-consistent n m has bytes (of (suc spread)) (of (suc (suc spread))) H (C .wall) (C .bytes-low) (C .bytes-high) points-sent (kept-sent ones) r whole many only i si)

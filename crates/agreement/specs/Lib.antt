@@ -12,3 +12,4 @@ pub mod Course
 pub mod Walk
 pub mod Protocols
 pub mod Decision
+pub mod Theorem

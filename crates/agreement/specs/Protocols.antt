@@ -275,11 +275,15 @@ module _ {n m : ℕ} {H : ℕ → Bool} {held : ℕ → List ℕ} {inbox : ℕ �
       (values-blocks n m (suc (suc spread)) (omega arith) (omega (arith, rounds-of n)) (omega (arith, rounds-of n)))
       (λ j i sj. rw (kept-is j, vote-stays j, ones j sj))
 
-  -- what column i ends on
-  unfoldable pub decides : ℕ → Option (List ℕ)
-  decides i = outcomeOf (withStage (Listen (suc (suc spread))) (state i (suc spread))) (inbox i (suc (suc spread)))
+  -- column i, to listen in the last round
+  abbrev pub lastly : ℕ → Column
+  lastly i = withStage (Listen (suc (suc spread))) (state i (suc spread))
 
-  pub last-state : (i : ℕ) → state i (rounds n) ≡ endsOn (decides i) (withStage (Listen (suc (suc spread))) (state i (suc spread)))
+  -- what it ends on
+  unfoldable pub decides : ℕ → Option (List ℕ)
+  decides i = outcomeOf (lastly i) (inbox i (suc (suc spread)))
+
+  pub last-state : (i : ℕ) → state i (rounds n) ≡ endsOn (decides i) (lastly i)
   unfolding hears decides
   last-state i =
       let e : rounds n ≡ suc (suc spread) = omega (arith, rounds-of n) in

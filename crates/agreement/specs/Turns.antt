@@ -22,7 +22,7 @@ use Rattle.agreement.specs.Claim.{Call, Speaks, Listens, Asks, refusalAt
 
 -- A CALL THAT IS REFUSED OR NOT
 
-answer-is : (why : ℕ) → refusalOf (answerOf why) ≡ why
+pub answer-is : (why : ℕ) → refusalOf (answerOf why) ≡ why
 unfolding refusalOf answerOf
 answer-is why = go (eqb why 0) refl
   where

@@ -19,10 +19,15 @@ use Rattle.agreement.specs.Claim.{Call, Speaks, Listens, Asks, Item, lea
 use Rattle.agreement.specs.Turns.{extra-keeps, spoke, listened}
 use Rattle.agreement.specs.Course.{course, course-is, listening-fits, course-fits}
 
--- column `own` of n with the record `bytes`, which speaks into the slices `out` and listens to `inbox`, round by round
-module _ (n m own : ℕ) (bytes : List ℕ) (inbox out : ℕ → List ℕ) (accepted : refusalOfSizes n m own ≡ 0) (full : length bytes ≡ m)
-    (out-length : (r : ℕ) → 1 ≤ r → r ≤ rounds n → length (out r) ≡ n * values n m r)
-    (inbox-length : (r : ℕ) → 1 ≤ r → r ≤ rounds n → length (inbox r) ≡ n * values n m r) where
+-- column `own` of n with the record `bytes`, which speaks into the slices `out` and listens to `inbox`, round by round: its sizes and its slices
+-- are as required
+pub record Ready (n m own : ℕ) (bytes : List ℕ) (inbox out : ℕ → List ℕ) : Type 0 where
+  pub accepted : refusalOfSizes n m own ≡ 0
+  pub full : length bytes ≡ m
+  pub out-length : (r : ℕ) → 1 ≤ r → r ≤ rounds n → length (out r) ≡ n * values n m r
+  pub inbox-length : (r : ℕ) → 1 ≤ r → r ≤ rounds n → length (inbox r) ≡ n * values n m r
+
+module _ (n m own : ℕ) (bytes : List ℕ) (inbox : ℕ → List ℕ) where
   -- after q rounds, to speak or to listen
   abbrev at : ℕ → Column
   at q = course n (freshColumn n m own bytes) inbox q
@@ -33,24 +38,6 @@ module _ (n m own : ℕ) (bytes : List ℕ) (inbox out : ℕ → List ℕ) (acce
   abbrev state : Bool → ℕ → Column
   state false q = at q
   state true q = listening q
-
-  -- the leading calls that are left: those of k rounds, after the one in which it is to listen
-  abbrev rest : Bool → ℕ → ℕ → List Call
-  rest false q k = turns out inbox (suc q) k
-  rest true q k = Listens (inbox (suc q)) ∷ turns out inbox (suc (suc q)) k
-
-  speaks-in : (q : ℕ) (o : List ℕ) → q < rounds n → o ≡ out (suc q)
-      → (refusalAt (at q) (Speaks o) ≡ 0) × (after (at q) (Speaks o) ≡ listening q) × (written (at q) o ≡ outgoing (at q) (suc q))
-  speaks-in q o l e =
-      let (is, stage) = course-is n m own bytes inbox q l in
-      spoke (at q) (suc q) (course-fits n m own bytes inbox accepted full q (omega arith)) o stage (rw (is .n-is, is .m-is) (ap length e ∙ out-length (suc q) (omega arith) l))
-
-  listens-in : (q : ℕ) (x : List ℕ) → q < rounds n → x ≡ inbox (suc q) → (refusalAt (listening q) (Listens x) ≡ 0) × (after (listening q) (Listens x) ≡ at (suc q))
-  unfolding course withStage
-  listens-in q x l e =
-      let (is, stage) = course-is n m own bytes inbox q l in
-      let (done, next) = listened (listening q) (suc q) (listening-fits n m own bytes inbox accepted full q l (course-fits n m own bytes inbox accepted full q (omega arith))) x refl (rw (is .n-is, is .m-is) (ap length e ∙ inbox-length (suc q) (omega arith) l)) in
-      (done, next ∙ ap (λ (y : ℕ). hears (kindOf y (suc q)) (suc q) (listening q) x) (is .n-is) ∙ ap (hears (kindOf n (suc q)) (suc q) (listening q)) e)
 
   -- what a list of calls comes to, from a state of the course on
   pub record Walked (b : Bool) (q : ℕ) (items : List Item) : Type 0 where
@@ -67,90 +54,110 @@ module _ (n m own : ℕ) (bytes : List ℕ) (inbox out : ℕ → List ℕ) (acce
       led-on zero r i l = ap at (omega arith)
       led-on (suc s) r i l = absurd (omega arith)
 
-  -- one call more in front
-  module _ {items : List Item} {q : ℕ} where
-    extra-in-front : (b : Bool) (call : Call) → after (state b q) call ≡ state b q → Walked b q items → Walked b q (extra call ∷ items)
-    unfolding noneRefused final callOf wrote afterLeading
-    extra-in-front b call keeps w =
-        record {
-          none-refused = subst (λ (c : Column). T (noneRefused c items)) (sym keeps) (w .none-refused);
-          ended = ap (λ (c : Column). final c items) keeps ∙ w .ended;
-          wrote-at = λ p r i l. ap (λ (c : Column). getD (wrote c items) p []) keeps ∙ w .wrote-at p r i l;
-          led = led-on;
-        }
-      where
-        led-on : (s r : ℕ) → 2 * q + bit b + s ≡ 2 * r → r ≤ rounds n → afterLeading s (state b q) (extra call ∷ items) ≡ at r
-        led-on zero r i l = w .led zero r i l
-        led-on (suc s) r i l = ap (λ (c : Column). afterLeading (suc s) c items) keeps ∙ w .led (suc s) r i l
+  -- a call more in front that changes nothing
+  extra-in-front : {items : List Item} {q : ℕ} (b : Bool) (call : Call) → after (state b q) call ≡ state b q → Walked b q items → Walked b q (extra call ∷ items)
+  unfolding noneRefused final callOf wrote afterLeading
+  extra-in-front {items} {q} b call keeps w =
+      record {
+        none-refused = subst (λ (c : Column). T (noneRefused c items)) (sym keeps) (w .none-refused);
+        ended = ap (λ (c : Column). final c items) keeps ∙ w .ended;
+        wrote-at = λ p r i l. ap (λ (c : Column). getD (wrote c items) p []) keeps ∙ w .wrote-at p r i l;
+        led = led-on;
+      }
+    where
+      led-on : (s r : ℕ) → 2 * q + bit b + s ≡ 2 * r → r ≤ rounds n → afterLeading s (state b q) (extra call ∷ items) ≡ at r
+      led-on zero r i l = w .led zero r i l
+      led-on (suc s) r i l = ap (λ (c : Column). afterLeading (suc s) c items) keeps ∙ w .led (suc s) r i l
 
-    speak-in-front : (o : List ℕ) → q < rounds n → o ≡ out (suc q) → Walked true q items → Walked false q (leading (Speaks o) ∷ items)
-    unfolding noneRefused final callOf wrote afterLeading
-    speak-in-front o h same w =
-        record {
-          none-refused = and-both (eqb (refusalAt (at q) (Speaks o)) 0) (noneRefused (after (at q) (Speaks o)) items) (eq→eqb (refusalAt (at q) (Speaks o)) 0 (spoken .0))
-              (subst (λ (c : Column). T (noneRefused c items)) (sym next) (w .none-refused));
-          ended = ap (λ (c : Column). final c items) next ∙ w .ended;
-          wrote-at = wrote-on;
-          led = led-on;
-        }
-      where
-        spoken : (refusalAt (at q) (Speaks o) ≡ 0) × (after (at q) (Speaks o) ≡ listening q) × (written (at q) o ≡ outgoing (at q) (suc q))
-        spoken = speaks-in q o h same
+  module _ (out : ℕ → List ℕ) (A : Ready n m own bytes inbox out) where
+    -- the leading calls that are left: those of k rounds, after the one in which it is to listen
+    abbrev rest : Bool → ℕ → ℕ → List Call
+    rest false q k = turns out inbox (suc q) k
+    rest true q k = Listens (inbox (suc q)) ∷ turns out inbox (suc (suc q)) k
 
-        next : after (at q) (Speaks o) ≡ listening q
-        next = spoken .1
+    speaks-in : (q : ℕ) (o : List ℕ) → q < rounds n → o ≡ out (suc q)
+        → (refusalAt (at q) (Speaks o) ≡ 0) × (after (at q) (Speaks o) ≡ listening q) × (written (at q) o ≡ outgoing (at q) (suc q))
+    speaks-in q o l e =
+        let (is, stage) = course-is n m own bytes inbox q l in
+        spoke (at q) (suc q) (course-fits n m own bytes inbox (A .accepted) (A .full) q (omega arith)) o stage (rw (is .n-is, is .m-is) (ap length e ∙ A .out-length (suc q) (omega arith) l))
 
-        wrote-on : (p r : ℕ) → q + 0 + p ≡ r → r < rounds n → getD (wrote (at q) (leading (Speaks o) ∷ items)) p [] ≡ outgoing (at r) (suc r)
-        wrote-on zero r i l = spoken .2 ∙ ap (λ (r : ℕ). outgoing (at r) (suc r)) (omega arith)
-        wrote-on (suc p) r i l = ap (λ (c : Column). getD (wrote c items) p []) next ∙ w .wrote-at p r (omega arith) l
+    listens-in : (q : ℕ) (x : List ℕ) → q < rounds n → x ≡ inbox (suc q) → (refusalAt (listening q) (Listens x) ≡ 0) × (after (listening q) (Listens x) ≡ at (suc q))
+    unfolding course withStage
+    listens-in q x l e =
+        let (is, stage) = course-is n m own bytes inbox q l in
+        let (done, next) = listened (listening q) (suc q) (listening-fits n m own bytes inbox (A .accepted) (A .full) q l (course-fits n m own bytes inbox (A .accepted) (A .full) q (omega arith))) x refl (rw (is .n-is, is .m-is) (ap length e ∙ A .inbox-length (suc q) (omega arith) l)) in
+        (done, next ∙ ap (λ (y : ℕ). hears (kindOf y (suc q)) (suc q) (listening q) x) (is .n-is) ∙ ap (hears (kindOf n (suc q)) (suc q) (listening q)) e)
 
-        led-on : (s r : ℕ) → 2 * q + 0 + s ≡ 2 * r → r ≤ rounds n → afterLeading s (at q) (leading (Speaks o) ∷ items) ≡ at r
-        led-on zero r i l = ap at (omega arith)
-        led-on (suc s) r i l = ap (λ (c : Column). afterLeading s c items) next ∙ w .led s r (omega arith) l
+    -- a leading call more in front
+    module _ {items : List Item} {q : ℕ} where
+      speak-in-front : (o : List ℕ) → q < rounds n → o ≡ out (suc q) → Walked true q items → Walked false q (leading (Speaks o) ∷ items)
+      unfolding noneRefused final callOf wrote afterLeading
+      speak-in-front o h same w =
+          record {
+            none-refused = and-both (eqb (refusalAt (at q) (Speaks o)) 0) (noneRefused (after (at q) (Speaks o)) items) (eq→eqb (refusalAt (at q) (Speaks o)) 0 (spoken .0))
+                (subst (λ (c : Column). T (noneRefused c items)) (sym next) (w .none-refused));
+            ended = ap (λ (c : Column). final c items) next ∙ w .ended;
+            wrote-at = wrote-on;
+            led = led-on;
+          }
+        where
+          spoken : (refusalAt (at q) (Speaks o) ≡ 0) × (after (at q) (Speaks o) ≡ listening q) × (written (at q) o ≡ outgoing (at q) (suc q))
+          spoken = speaks-in q o h same
 
-    listen-in-front : (x : List ℕ) → q < rounds n → x ≡ inbox (suc q) → Walked false (suc q) items → Walked true q (leading (Listens x) ∷ items)
-    unfolding noneRefused final callOf wrote afterLeading
-    listen-in-front x h same w =
-        record {
-          none-refused = and-both (eqb (refusalAt (listening q) (Listens x)) 0) (noneRefused (after (listening q) (Listens x)) items) (eq→eqb (refusalAt (listening q) (Listens x)) 0 (listens-in q x h same .0))
-              (subst (λ (c : Column). T (noneRefused c items)) (sym next) (w .none-refused));
-          ended = ap (λ (c : Column). final c items) next ∙ w .ended;
-          wrote-at = λ p r i l. ap (λ (c : Column). getD (wrote c items) p []) next ∙ w .wrote-at p r (omega arith) l;
-          led = led-on;
-        }
-      where
-        next : after (listening q) (Listens x) ≡ at (suc q)
-        next = listens-in q x h same .1
+          next : after (at q) (Speaks o) ≡ listening q
+          next = spoken .1
 
-        led-on : (s r : ℕ) → 2 * q + 1 + s ≡ 2 * r → r ≤ rounds n → afterLeading s (listening q) (leading (Listens x) ∷ items) ≡ at r
-        led-on zero r i l = absurd (omega arith)
-        led-on (suc s) r i l = ap (λ (c : Column). afterLeading s c items) next ∙ w .led s r (omega arith) l
+          wrote-on : (p r : ℕ) → q + 0 + p ≡ r → r < rounds n → getD (wrote (at q) (leading (Speaks o) ∷ items)) p [] ≡ outgoing (at r) (suc r)
+          wrote-on zero r i l = spoken .2 ∙ ap (λ (r : ℕ). outgoing (at r) (suc r)) (omega arith)
+          wrote-on (suc p) r i l = ap (λ (c : Column). getD (wrote c items) p []) next ∙ w .wrote-at p r (omega arith) l
 
-  walked : (items : List Item) (b : Bool) (q k : ℕ) → leadingCalls items ≡ rest b q k → T (extrasFit (state b q) items) → q + k + bit b ≡ rounds n → Walked b q items
-  unfolding leadingCalls turns extrasFit
-  walked [] false q zero e h u = subst (λ (q : ℕ). Walked false q []) (omega arith) nothing-left
-  walked [] false q (suc k) e h u = let z : _≡_ {A = ℕ} 0 1 = cc in absurd (omega arith)
-  walked [] true q k e h u = let z : _≡_ {A = ℕ} 0 1 = cc in absurd (omega arith)
-  walked (extra call ∷ items) b q k e h u =
-      let quiet : T (asks call || not (eqb (refusalAt (state b q) call) 0)) = search conj in
-      let others : T (extrasFit (after (state b q) call) items) = search conj in
-      let keeps = extra-keeps (state b q) call quiet in
-      extra-in-front b call keeps (walked items b q k e (subst (λ (c : Column). T (extrasFit c items)) keeps others) u)
-  walked (leading call ∷ items) false q zero e h u = let z : _≡_ {A = ℕ} 0 1 = cc in absurd (omega arith)
-  walked (leading (Listens x) ∷ items) false q (suc k) e h u = let z : _≡_ {A = ℕ} 0 1 = cc in absurd (omega arith)
-  walked (leading Asks ∷ items) false q (suc k) e h u = let z : _≡_ {A = ℕ} 0 1 = cc in absurd (omega arith)
-  walked (leading (Speaks o) ∷ items) false q (suc k) e h u =
-      let same : o ≡ out (suc q) = cc in
-      let others : leadingCalls items ≡ rest true q k = cc in
-      let next = speaks-in q o (omega arith) same .1 in
-      speak-in-front o (omega arith) same (walked items true q k others (subst (λ (c : Column). T (extrasFit c items)) next h) (omega arith))
-  walked (leading (Speaks o) ∷ items) true q k e h u = let z : _≡_ {A = ℕ} 0 1 = cc in absurd (omega arith)
-  walked (leading Asks ∷ items) true q k e h u = let z : _≡_ {A = ℕ} 0 1 = cc in absurd (omega arith)
-  walked (leading (Listens x) ∷ items) true q k e h u =
-      let same : x ≡ inbox (suc q) = cc in
-      let others : leadingCalls items ≡ rest false (suc q) k = cc in
-      let next = listens-in q x (omega arith) same .1 in
-      listen-in-front x (omega arith) same (walked items false (suc q) k others (subst (λ (c : Column). T (extrasFit c items)) next h) (omega arith))
+          led-on : (s r : ℕ) → 2 * q + 0 + s ≡ 2 * r → r ≤ rounds n → afterLeading s (at q) (leading (Speaks o) ∷ items) ≡ at r
+          led-on zero r i l = ap at (omega arith)
+          led-on (suc s) r i l = ap (λ (c : Column). afterLeading s c items) next ∙ w .led s r (omega arith) l
 
-  pub walk : (items : List Item) → leadingCalls items ≡ turns out inbox 1 (rounds n) → T (extrasFit (at 0) items) → Walked false 0 items
-  walk items e h = walked items false 0 (rounds n) e h (omega arith)
+      listen-in-front : (x : List ℕ) → q < rounds n → x ≡ inbox (suc q) → Walked false (suc q) items → Walked true q (leading (Listens x) ∷ items)
+      unfolding noneRefused final callOf wrote afterLeading
+      listen-in-front x h same w =
+          record {
+            none-refused = and-both (eqb (refusalAt (listening q) (Listens x)) 0) (noneRefused (after (listening q) (Listens x)) items) (eq→eqb (refusalAt (listening q) (Listens x)) 0 (listens-in q x h same .0))
+                (subst (λ (c : Column). T (noneRefused c items)) (sym next) (w .none-refused));
+            ended = ap (λ (c : Column). final c items) next ∙ w .ended;
+            wrote-at = λ p r i l. ap (λ (c : Column). getD (wrote c items) p []) next ∙ w .wrote-at p r (omega arith) l;
+            led = led-on;
+          }
+        where
+          next : after (listening q) (Listens x) ≡ at (suc q)
+          next = listens-in q x h same .1
+
+          led-on : (s r : ℕ) → 2 * q + 1 + s ≡ 2 * r → r ≤ rounds n → afterLeading s (listening q) (leading (Listens x) ∷ items) ≡ at r
+          led-on zero r i l = absurd (omega arith)
+          led-on (suc s) r i l = ap (λ (c : Column). afterLeading s c items) next ∙ w .led s r (omega arith) l
+
+    walked : (items : List Item) (b : Bool) (q k : ℕ) → leadingCalls items ≡ rest b q k → T (extrasFit (state b q) items) → q + k + bit b ≡ rounds n → Walked b q items
+    unfolding leadingCalls turns extrasFit
+    walked [] false q zero e h u = subst (λ (q : ℕ). Walked false q []) (omega arith) nothing-left
+    walked [] false q (suc k) e h u = let z : _≡_ {A = ℕ} 0 1 = cc in absurd (omega arith)
+    walked [] true q k e h u = let z : _≡_ {A = ℕ} 0 1 = cc in absurd (omega arith)
+    walked (extra call ∷ items) b q k e h u =
+        let quiet : T (asks call || not (eqb (refusalAt (state b q) call) 0)) = search conj in
+        let others : T (extrasFit (after (state b q) call) items) = search conj in
+        let keeps = extra-keeps (state b q) call quiet in
+        extra-in-front b call keeps (walked items b q k e (subst (λ (c : Column). T (extrasFit c items)) keeps others) u)
+    walked (leading call ∷ items) false q zero e h u = let z : _≡_ {A = ℕ} 0 1 = cc in absurd (omega arith)
+    walked (leading (Listens x) ∷ items) false q (suc k) e h u = let z : _≡_ {A = ℕ} 0 1 = cc in absurd (omega arith)
+    walked (leading Asks ∷ items) false q (suc k) e h u = let z : _≡_ {A = ℕ} 0 1 = cc in absurd (omega arith)
+    walked (leading (Speaks o) ∷ items) false q (suc k) e h u =
+        let same : o ≡ out (suc q) = cc in
+        let others : leadingCalls items ≡ rest true q k = cc in
+        let next = speaks-in q o (omega arith) same .1 in
+        speak-in-front o (omega arith) same (walked items true q k others (subst (λ (c : Column). T (extrasFit c items)) next h) (omega arith))
+    walked (leading (Speaks o) ∷ items) true q k e h u = let z : _≡_ {A = ℕ} 0 1 = cc in absurd (omega arith)
+    walked (leading Asks ∷ items) true q k e h u = let z : _≡_ {A = ℕ} 0 1 = cc in absurd (omega arith)
+    walked (leading (Listens x) ∷ items) true q k e h u =
+        let same : x ≡ inbox (suc q) = cc in
+        let others : leadingCalls items ≡ rest false (suc q) k = cc in
+        let next = listens-in q x (omega arith) same .1 in
+        listen-in-front x (omega arith) same (walked items false (suc q) k others (subst (λ (c : Column). T (extrasFit c items)) next h) (omega arith))
+
+    pub walk : (items : List Item) → leadingCalls items ≡ turns out inbox 1 (rounds n) → T (extrasFit (at 0) items) → Walked false 0 items
+    walk items e h = walked items false 0 (rounds n) e h (omega arith)

@@ -1,0 +1,228 @@
+-- THE THIRD DEMAND, proved of the definitions that the calls' contracts cite: `third-demand`.
+use mathlib.Core.Path.{_≡_, refl, sym, ap, subst, _∙_}
+use mathlib.Core.Bool.{Bool, true, false, not, _&&_, _||_, cond}
+use mathlib.Core.List.{List, [], _∷_, _++_}
+use mathlib.Core.Option.{Option, none, some}
+use Prim.Native.Nat.{ℕ, zero, suc, _+_, _-_, _*_, _≤_, _<_}
+use native.Mathlib.Omega.{arith}
+use native.Mathlib.Decide.{decLt}
+use lib.Dec.{T, eqb, leb}
+use lib.ListN.{length, getD, take, List·getD-eq-default}
+use lib.Seq.{ext-getD, getD-take, length-take-le}
+use Rattle.lists.specs.Lists.{count, same}
+use Rattle.lists.specs.Tests.{conj, and-left, and-both, is-true}
+use Rattle.lists.specs.Entries.{same-eq, same-refl}
+use Rattle.lists.specs.Count.{mono}
+use Rattle.block.specs.Block.{part}
+use Rattle.block.specs.Value.{getD-part, length-part, below-part}
+use Rattle.sizes.specs.Sizes.{faults, rounds, values, refusal as refusalOfSizes}
+use Rattle.sizes.specs.Laws.{rounds-are, not-refused as sizes-accepted}
+use Rattle.messages.specs.Laws.{not-refused}
+use Rattle.messages.specs.Wall.{Wall, Sound, Delivered}
+use Rattle.messages.specs.Delivery.{delivered-as}
+use Rattle.codeword.specs.Codeword.{Held}
+use Rattle.king.specs.Phases.{sound-king}
+use Rattle.dispersal.specs.Run.{Graded, keeps}
+use Rattle.agreement.specs.declared.Column.{Column}
+use Rattle.agreement.specs.Column.{freshColumn, fits}
+use Rattle.agreement.specs.Parts.{withStage, withBytes}
+use Rattle.agreement.specs.Rounds.{outgoing, endsOn}
+use Rattle.agreement.specs.Calls.{answered, freshRefusal, fresh, inState, whenAsked, outcomeRefusal, ending, replyOf, shown, outcome, refusalIn, recordIn}
+use Rattle.agreement.specs.Claim.{Call, Item, leading, extra, refusalAt, after, asks, final, afterLeading, leadingCalls, turns, extrasFit, noneRefused, wrote, made, Run, holds, Answers, leaves, Demand}
+use Rattle.agreement.specs.Turns.{answer-is}
+use Rattle.agreement.specs.Course.{course, course-fits}
+use Rattle.agreement.specs.Walk.{Ready, Walked, walk}
+use Rattle.agreement.specs.Protocols.{at, Courses, course-graded, lastly, decides, last-state}
+use Rattle.agreement.specs.Decision.{Decision, decision}
+
+-- A RECORD OF m BYTES IN 32 PLACES
+
+module _ (m : ℕ) (high : m ≤ 32) (r : List ℕ) (full : length r ≡ m) where
+  -- its m bytes are the record
+  cut : take m (part r 0 32) ≡ r
+  cut =
+      let long : length (take m (part r 0 32)) ≡ m = length-take-le m (part r 0 32) (omega (arith, length-part r 0 32)) in
+      ext-getD 0 (take m (part r 0 32)) r (long ∙ sym full) (λ p h.
+      getD-take m (part r 0 32) p 0 (omega (arith, long)) ∙ getD-part r 0 32 p (omega (arith, long)) ∙ ap (λ (k : ℕ). getD r k 0) (omega arith))
+
+  -- it is zeros past them
+  zeros : (p : ℕ) → m ≤ p → getD (part r 0 32) p 0 ≡ 0
+  zeros p h = go (decLt p 32)
+    where
+      go : Dec (p < 32) → getD (part r 0 32) p 0 ≡ 0
+      go (yes l) = getD-part r 0 32 p l ∙ List·getD-eq-default r 0 {n = 0 + p} (omega arith)
+      go (no l) = List·getD-eq-default (part r 0 32) 0 {n = p} (omega (arith, length-part r 0 32))
+
+-- WHAT A COLUMN THAT ENDED ANSWERS
+
+shortened : ℕ → Option (List ℕ) → Option (List ℕ)
+shortened m none = none
+shortened m (some r) = some (take m r)
+
+ended-answers : (m : ℕ) (c : Column) (o : Option (List ℕ)) → T (fits (endsOn o c)) → Answers m (endsOn o c) (shortened m o)
+unfolding outcome replyOf outcomeRefusal inState whenAsked ending shown refusalIn recordIn endsOn shortened withStage withBytes
+ended-answers m c none h = rw (is-true (fits (endsOn none c)) h) (refl, refl)
+ended-answers m c (some r) h = rw (is-true (fits (endsOn (some r) c)) h) (refl, refl)
+
+-- A LIST WHOSE LEADING CALLS ALL STAND BEFORE
+
+all-before : (before behind : List Item) → leadingCalls behind ≡ [] → leadingCalls (before ++ behind) ≡ leadingCalls before
+unfolding leadingCalls
+all-before [] behind e = e
+all-before (leading call ∷ before) behind e = ap (λ (calls : List Call). call ∷ calls) (all-before before behind e)
+all-before (extra call ∷ before) behind e = all-before before behind e
+
+extras-before : (c : Column) (before behind : List Item) → T (extrasFit c (before ++ behind)) → T (extrasFit c before)
+unfolding extrasFit
+extras-before c [] behind h = tt
+extras-before c (leading call ∷ before) behind h = extras-before (after c call) before behind h
+extras-before c (extra call ∷ before) behind h =
+    let quiet : T (asks call || not (eqb (refusalAt c call) 0)) = search conj in
+    let others : T (extrasFit (after c call) (before ++ behind)) = search conj in
+    and-both (asks call || not (eqb (refusalAt c call) 0)) (extrasFit (after c call) before) quiet (extras-before (after c call) before behind others)
+
+module _ {n m : ℕ} {H : ℕ → Bool} {held : ℕ → List ℕ} {lists : ℕ → List Item} {out inbox : ℕ → ℕ → List ℕ} (R : Run n m H held lists out inbox) where
+  abbrev state : ℕ → ℕ → Column
+  state i q = at n m held inbox i q
+
+  sized : (i : ℕ) → Sound n H i → refusalOfSizes n m i ≡ 0
+  sized i si =
+      sizes-accepted n m i (record {
+        range = record { columns-low = R .wall .low; columns-high = R .wall .high; bytes-low = R .bytes-low; bytes-high = R .bytes-high };
+        number-low = si .0;
+        number-high = si .1;
+      })
+
+  -- a sound column is made
+  not-refused-fresh : (i : ℕ) → Sound n H i → freshRefusal n m i (length (held i)) ≡ 0
+  unfolding freshRefusal
+  not-refused-fresh i si = not-refused (refusalOfSizes n m i) 1 m (length (held i)) (sized i si) (omega (arith, R .records i si .0))
+
+  made-is : (i : ℕ) → Sound n H i → made n m held i ≡ state i 0
+  unfolding made fresh answered course
+  made-is i si = rw (not-refused-fresh i si) refl
+
+  ready : (i : ℕ) → Sound n H i → Ready n m i (held i) (inbox i) (out i)
+  ready i si =
+      record { accepted = sized i si; full = R .records i si .0; out-length = λ r. R .out-length i r si; inbox-length = λ r. R .inbox-length i r si }
+
+  -- a list of calls with all that lead through the rounds
+  walked : (i : ℕ) → Sound n H i → (items : List Item) → leadingCalls items ≡ turns (out i) (inbox i) 1 (rounds n) → T (extrasFit (made n m held i) items)
+      → Walked n m i (held i) (inbox i) false 0 items
+  walked i si items e h =
+      walk n m i (held i) (inbox i) (out i) (ready i si) items e (subst (λ (c : Column). T (extrasFit c items)) (made-is i si) h)
+
+  whole : (i : ℕ) → Sound n H i → Walked n m i (held i) (inbox i) false 0 (lists i)
+  whole i si = walked i si (lists i) (R .in-turn i si) (R .extras i si)
+
+  courses : Courses n m H held inbox
+  courses =
+      record {
+        wall = R .wall;
+        bytes-low = R .bytes-low;
+        bytes-high = R .bytes-high;
+        records = λ i si.
+            record {
+              size = length-part (held i) 0 32;
+              small = below-part 256 (held i) 0 32 (omega arith) (R .records i si .1);
+              past = zeros m (R .bytes-high) (held i) (R .records i si .0);
+            };
+        delivered = λ q l.
+            delivered-as n H (values n m (suc q)) (values n m (suc q)) (λ j. getD (wrote (made n m held j) (lists j)) (suc q - 1) []) (λ j. outgoing (state j q) (suc q)) (λ i. inbox i (suc q)) refl (λ j sj.
+            ap (λ (c : Column). getD (wrote c (lists j)) (suc q - 1) []) (made-is j sj) ∙ whole j sj .wrote-at (suc q - 1) q (omega arith) l) (R .mail (suc q) (omega arith) l);
+      }
+
+  D : Decision courses
+  D = decision courses
+
+  -- wherever it is asked behind its last leading call, a column answers what it decided
+  answers : (i : ℕ) → Sound n H i → (before behind : List Item) → lists i ≡ before ++ behind → leadingCalls behind ≡ []
+      → Answers m (final (made n m held i) before) (shortened m (D .decided))
+  answers i si before behind e none-behind =
+      subst (λ (c : Column). Answers m c (shortened m (D .decided))) (sym asked-in)
+      (ended-answers m (lastly courses i) (D .decided) (subst (λ (c : Column). T (fits c)) ended (course-fits n m i (held i) (inbox i) (sized i si) (R .records i si .0) (rounds n) (omega arith))))
+    where
+      -- it ends on what the wall decided
+      ended : state i (rounds n) ≡ endsOn (D .decided) (lastly courses i)
+      ended = last-state courses i ∙ ap (λ (o : Option (List ℕ)). endsOn o (lastly courses i)) (D .same-outcome i si)
+
+      -- and all leading calls stand before
+      asked-in : final (made n m held i) before ≡ endsOn (D .decided) (lastly courses i)
+      asked-in =
+          ap (λ (c : Column). final c before) (made-is i si)
+          ∙ walked i si before (sym (all-before before behind none-behind) ∙ ap leadingCalls (sym e) ∙ R .in-turn i si)
+          (extras-before (made n m held i) before behind (subst (λ (items : List Item). T (extrasFit (made n m held i) items)) e (R .extras i si))) .ended
+          ∙ ended
+
+  -- the m bytes of sound column i, from its 32 places
+  held-is : (i : ℕ) → Sound n H i → take m (part (held i) 0 32) ≡ held i
+  held-is i si = cut m (R .bytes-high) (held i) (R .records i si .0)
+
+  many : (o : Option (List ℕ)) → D .decided ≡ o → (r : List ℕ) → shortened m o ≡ some r → suc (faults n) ≤ count (holds H held r) n
+  unfolding shortened
+  many none e r q =
+      let z : _≡_ {A = ℕ} 0 1 = cc in absurd (omega arith)
+  many (some s) e r q =
+      let is : take m s ≡ r = cc in
+      omega (
+        arith,
+        D .many-held s e,
+        mono (holds H (λ i. part (held i) 0 32) s) (holds H held r) n (λ i l u h.
+            let si : Sound n H i = (l, u, search conj) in
+            let held-it : T (same (part (held i) 0 32) s) = search conj in
+            let eq : held i ≡ r = sym (held-is i si) ∙ ap (take m) (same-eq (part (held i) 0 32) s held-it) ∙ is in
+            and-both (H i) (same (held i) r) (si .2) (rw eq (same-refl r))),
+      )
+
+  alike : (r : List ℕ) → ((i : ℕ) → Sound n H i → held i ≡ r) → shortened m (D .decided) ≡ some r
+  unfolding shortened
+  alike r all =
+      let (k, l, sk) = sound-king (R .wall) in
+      let decided = D .all-alike (part r 0 32) (λ i si. ap (λ (s : List ℕ). part s 0 32) (all i si)) in
+      rw decided (ap {B = Option (List ℕ)} some (cut m (R .bytes-high) r (ap length (sym (all (suc k) sk)) ∙ R .records (suc k) sk .0)))
+
+  -- the grade that a column leaves with
+  leaves-is : (i : ℕ) → Sound n H i → leaves n m held lists i ≡ state i 3 .grade
+  leaves-is i si =
+      ap (λ (c : Column). afterLeading 6 c (lists i) .grade) (made-is i si) ∙ ap (λ (c : Column). c .grade) (whole i si .led 6 3 refl (omega (arith, rounds-are n)))
+
+  grades : Graded n H held (leaves n m held lists)
+  grades =
+      record {
+        validity = λ r all i si. leaves-is i si ∙ G .validity (part r 0 32) (λ j sj. ap (λ (s : List ℕ). part s 0 32) (all j sj)) i si;
+        enough = λ c sc two.
+            omega (
+              arith,
+              G .enough c sc (sym (leaves-is c sc) ∙ two),
+              mono (keeps H (λ i. part (held i) 0 32) (λ i. state i 3 .grade) (part (held c) 0 32)) (keeps H held (leaves n m held lists) (held c)) n (λ i l u h.
+                  let si : Sound n H i = (l, u, search conj) in
+                  let held-it : T (same (part (held i) 0 32) (part (held c) 0 32)) = search conj in
+                  let one : T (leb 1 (state i 3 .grade)) = search conj in
+                  and-both (holds H held (held c) i) (leb 1 (leaves n m held lists i))
+                  (and-both (H i) (same (held i) (held c)) (si .2) (rw (one-record i c si sc (same-eq _ _ held-it)) (same-refl (held c)))) (rw (leaves-is i si) one)),
+            );
+        others = λ c i sc si two ne. leaves-is i si ∙ G .others c i sc si (sym (leaves-is c sc) ∙ two) (λ e. ne (one-record i c si sc e));
+      }
+    where
+      G : Graded n H (λ i. part (held i) 0 32) (λ i. state i 3 .grade)
+      G = course-graded courses
+
+      one-record : (i c : ℕ) → Sound n H i → Sound n H c → part (held i) 0 32 ≡ part (held c) 0 32 → held i ≡ held c
+      one-record i c si sc e = sym (held-is i si) ∙ ap (take m) e ∙ held-is c sc
+
+  -- THE THEOREM
+  pub third-demand : Demand n m H held lists
+  unfolding fresh answered
+  third-demand =
+      record {
+        accepted = λ i si.
+            (
+              answer-is (freshRefusal n m i (length (held i))) ∙ not-refused-fresh i si,
+              subst (λ (c : Column). T (noneRefused c (lists i))) (sym (made-is i si)) (whole i si .none-refused),
+            );
+        decided = shortened m (D .decided);
+        same-outcome = answers;
+        many-held = many (D .decided) refl;
+        all-alike = alike;
+        grades = grades;
+      }

@@ -1,15 +1,15 @@
 -- THEOREM 3.15 with the clause on t + 1 holders, of the sound columns' courses: all end on none, or all on one record that at least t + 1 of
 -- them held; if all held one record, on it.
-use mathlib.Core.Path.{_≡_, refl, sym, ap, subst, _∙_}
+use mathlib.Core.Path.{_≡_, refl, ap, subst, _∙_}
 use mathlib.Core.Bool.{Bool, true, false, _&&_}
 use mathlib.Core.List.{List}
 use mathlib.Core.Option.{Option, none, some}
-use Prim.Native.Nat.{ℕ, zero, suc, _≤_, _<_}
+use Prim.Native.Nat.{ℕ, zero, suc, _≤_}
 use native.Mathlib.Omega.{arith}
 use native.Mathlib.Decide.{decLe}
 use lib.Dec.{T, eqb, leb, leb→le, eqb→eq}
 use Rattle.lists.specs.Lists.{bit, count, same}
-use Rattle.lists.specs.Tests.{conj, and-left, and-both, by-contra, is-true, is-false, eq→eqb}
+use Rattle.lists.specs.Tests.{conj, and-left, and-both, by-contra}
 use Rattle.lists.specs.Entries.{same-eq, same-refl}
 use Rattle.lists.specs.Count.{mono, find, Found, count-pos}
 use Rattle.sizes.specs.Sizes.{faults}

@@ -13,3 +13,4 @@ pub mod Walk
 pub mod Protocols
 pub mod Decision
 pub mod Theorem
+pub mod Example

@@ -1,35 +1,35 @@
 -- The courses of the sound columns, taken together, are runs of the building blocks: graded dispersal, t + 1 phases of the king rule, and
 -- data dissemination. Their theorems then speak of the states of the columns.
 use mathlib.Core.Path.{_≡_, refl, sym, ap, _∙_, subst, fun-ext}
-use mathlib.Core.Bool.{Bool, true, false, cond, _&&_}
+use mathlib.Core.Bool.{Bool, true}
 use mathlib.Core.List.{List, [], _∷_}
 use mathlib.Core.Option.{Option, none, some}
-use Prim.Native.Nat.{ℕ, zero, suc, _+_, _*_, _≤_, _<_}
+use Prim.Native.Nat.{ℕ, zero, suc, _*_, _≤_, _<_}
 use native.Mathlib.Omega.{arith}
-use lib.Dec.{T, eqb, leb}
+use lib.Dec.{T}
 use Rattle.lists.specs.Lists.{count, rowsOf}
 use Rattle.block.specs.Block.{part}
 use Rattle.sizes.specs.Sizes.{faults, blocks, rounds, values}
 use Rattle.sizes.specs.Laws.{values-exchange, values-one, values-blocks}
-use Rattle.messages.specs.Messages.{said, from, toAll, heard, heardOfAll}
+use Rattle.messages.specs.Messages.{said, toAll}
 use Rattle.messages.specs.Wall.{Wall, Sound, Delivered}
 use Rattle.messages.specs.Delivery.{delivered-as}
 use Rattle.codeword.specs.Codeword.{Held}
-use Rattle.king.specs.King.{phases, proposal, settled, firm, word, crowned}
+use Rattle.king.specs.King.{phases, proposal, firm, word}
 use Rattle.king.specs.Phase.{Phase}
 use Rattle.king.specs.Calls as K
 use Rattle.dispersal.specs.Dispersal.{exchange, exchanges}
 use Rattle.dispersal.specs.Run.{Graded}
 use Rattle.dispersal.specs.Calls.{firstOf, secondOf, leavesWith, calls-graded}
-use Rattle.dissemination.specs.Dissemination.{spoken, points, pointsToAll, recordOf}
+use Rattle.dissemination.specs.Dissemination.{spoken, points, pointsToAll}
 use Rattle.dissemination.specs.Run.{inputs}
-use Rattle.dissemination.specs.Calls.{keptOf, receivedLast, calls-consistent}
+use Rattle.dissemination.specs.Calls.{keptOf, calls-consistent}
 use Rattle.agreement.specs.declared.Stage.the-variants.{Listen}
 use Rattle.agreement.specs.declared.Column.{Column}
 use Rattle.agreement.specs.declared.Kind.{Kind}
 use Rattle.agreement.specs.declared.Kind.the-variants.{Exchange, FirstReport, SecondReport, Votes, Proposals, King, Points, KeptPoints}
 use Rattle.agreement.specs.Column.{freshColumn}
-use Rattle.agreement.specs.Parts.{withStage, withBytes, withProposal, withAgreements, withReports, withGrade, withVote, withKept}
+use Rattle.agreement.specs.Parts.{withStage, withProposal, withAgreements, withReports, withGrade, withVote, withKept}
 use Rattle.agreement.specs.Rounds.{kindOf, votesOne, spreads, message, outgoing, received, kingSaid, graded, firstVote, resettled, outcomeOf, endsOn, goesOn, hears}
 use Rattle.agreement.specs.Kinds.{rounds-of, kind-votes, kind-proposals, kind-king, kind-points, kind-kept}
 use Rattle.agreement.specs.Keeps.{Is}

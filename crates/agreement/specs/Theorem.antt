@@ -1,16 +1,16 @@
 -- THE THIRD DEMAND, proved of the definitions that the calls' contracts cite: `third-demand`.
 use mathlib.Core.Path.{_≡_, refl, sym, ap, subst, _∙_}
-use mathlib.Core.Bool.{Bool, true, false, not, _&&_, _||_, cond}
+use mathlib.Core.Bool.{Bool, false, not, _||_}
 use mathlib.Core.List.{List, [], _∷_, _++_}
 use mathlib.Core.Option.{Option, none, some}
-use Prim.Native.Nat.{ℕ, zero, suc, _+_, _-_, _*_, _≤_, _<_}
+use Prim.Native.Nat.{ℕ, suc, _+_, _-_, _≤_, _<_}
 use native.Mathlib.Omega.{arith}
 use native.Mathlib.Decide.{decLt}
 use lib.Dec.{T, eqb, leb}
 use lib.ListN.{length, getD, take, List·getD-eq-default}
 use lib.Seq.{ext-getD, getD-take, length-take-le}
 use Rattle.lists.specs.Lists.{count, same}
-use Rattle.lists.specs.Tests.{conj, and-left, and-both, is-true}
+use Rattle.lists.specs.Tests.{conj, and-both, is-true}
 use Rattle.lists.specs.Entries.{same-eq, same-refl}
 use Rattle.lists.specs.Count.{mono}
 use Rattle.block.specs.Block.{part}
@@ -18,13 +18,12 @@ use Rattle.block.specs.Value.{getD-part, length-part, below-part}
 use Rattle.sizes.specs.Sizes.{faults, rounds, values, refusal as refusalOfSizes}
 use Rattle.sizes.specs.Laws.{rounds-are, not-refused as sizes-accepted}
 use Rattle.messages.specs.Laws.{not-refused}
-use Rattle.messages.specs.Wall.{Wall, Sound, Delivered}
+use Rattle.messages.specs.Wall.{Sound}
 use Rattle.messages.specs.Delivery.{delivered-as}
-use Rattle.codeword.specs.Codeword.{Held}
 use Rattle.king.specs.Phases.{sound-king}
 use Rattle.dispersal.specs.Run.{Graded, keeps}
 use Rattle.agreement.specs.declared.Column.{Column}
-use Rattle.agreement.specs.Column.{freshColumn, fits}
+use Rattle.agreement.specs.Column.{fits}
 use Rattle.agreement.specs.Parts.{withStage, withBytes}
 use Rattle.agreement.specs.Rounds.{outgoing, endsOn}
 use Rattle.agreement.specs.Calls.{answered, freshRefusal, fresh, inState, whenAsked, outcomeRefusal, ending, replyOf, shown, outcome, refusalIn, recordIn}
@@ -32,7 +31,7 @@ use Rattle.agreement.specs.Claim.{Call, Item, leading, extra, refusalAt,
 use Rattle.agreement.specs.Turns.{answer-is}
 use Rattle.agreement.specs.Course.{course, course-fits}
 use Rattle.agreement.specs.Walk.{Ready, Walked, walk}
-use Rattle.agreement.specs.Protocols.{at, Courses, course-graded, lastly, decides, last-state}
+use Rattle.agreement.specs.Protocols.{at, Courses, course-graded, lastly, last-state}
 use Rattle.agreement.specs.Decision.{Decision, decision}
 
 -- A RECORD OF m BYTES IN 32 PLACES

@@ -1,0 +1,185 @@
+-- A RUN THAT MEETS THE PREMISES: document 01's worked sheet, as lists of calls. Four columns, records of one byte: columns 1 and 2 held 41,
+-- column 3 held 42 (hexadecimal). Column 4 is unsound: it tells columns 1 and 2 that it held 41 as they did, sends its first report to both and its second
+-- to column 1 alone, and column 3 gets nothing. Refused calls and calls for the outcome stand among the others.
+use mathlib.Core.Path.{_≡_, refl, sym, ap, _∙_}
+use mathlib.Core.Bool.{Bool, true, false, not, cond}
+use mathlib.Core.List.{List, [], _∷_, _++_}
+use mathlib.Core.Option.{some}
+use Prim.Native.Nat.{ℕ, zero, suc, _+_, _-_, _*_, _≤_, _<_}
+use native.Mathlib.Nat.{le-refl}
+use native.Mathlib.Omega.{arith}
+use borrow.Author.Tests.{ne-eqb}
+use lib.Dec.{T, eqb, T-not}
+use lib.ListN.{getD, length}
+use Rattle.lists.specs.Lists.{count, all, Below, listOf, rowsOf, inRow}
+use Rattle.lists.specs.Tests.{is-false}
+use Rattle.lists.specs.Entries.{length-listOf, getD-listOf}
+use Rattle.lists.specs.Rows.{length-rowsOf, inRow-rowsOf}
+use Rattle.field.specs.Field.{blank}
+use Rattle.block.specs.Block.{part, value}
+use Rattle.sizes.specs.Sizes.{faults, degree, blocks, rounds, values, outside, refusal as refusalOfSizes}
+use Rattle.messages.specs.Messages.{readPoint, readReport, readBit, said, from, toAll, refusal, unlessRefused, heard, heardFrom, heardOfAll, times}
+use Rattle.messages.specs.Wall.{Wall, Sound, Delivered}
+use Rattle.codeword.specs.Codeword.{point, values as valuesAt}
+use Rattle.decoder.specs.Decoder.{decoded, found, seek, through, under, slopes, answerOf as decodedAs, polynomialOf}
+use Rattle.king.specs.King.{phases, bits, chosen, proposal, settled, firm, word, crowned}
+use Rattle.dispersal.specs.Dispersal.{exchange, agreesIn, agreesWith, agreementAt, agreements, agrees, firstQuorum, firstReport, reportAt, reports, reported, both, secondQuorum, secondReport, readReports, grade}
+use Rattle.dissemination.specs.Dissemination.{spoken, pointsIn, points, least, often, keptPoint, keptAt, keptPoints, pointAt, blockOf, there, coefficient, isByte, isBlock, byteAt, recordOf}
+use Rattle.agreement.specs.Column.{freshColumn, stageFits, byteFits, flagFits, pointFits, numbersFit, arraysFit, fits}
+use Rattle.agreement.specs.Parts.{withStage, withBytes, withProposal, withAgreements, withReports, withGrade, withVote, withKept}
+use Rattle.agreement.specs.Rounds.{kingRound, laterRound, kindOf, votesOne, spreads, message, outgoing, received, kingSaid, graded, firstVote, resettled, outcomeOf, endsOn, goesOn, hears}
+use Rattle.agreement.specs.Calls.{refusalOf, answerOf, answered, freshRefusal, fresh, roundOf, whenSpeaking, whenListening, whenAsked, inState, inRound, speakRefusal, speak, written, listenRefusal, listen, outcomeRefusal, ending, replyOf, shown, outcome, refusalIn, recordIn}
+use Rattle.agreement.specs.Claim.{Call, Speaks, Listens, Asks, Item, leading, extra, callOf, refusalAt, after, final, afterLeading, leadingCalls, turns, asks, extrasFit, wrote, made, Run, Answers, leaves, Demand}
+use Rattle.agreement.specs.Theorem.{third-demand}
+
+-- column 4 is unsound
+abbrev sound : ℕ → Bool
+sound i = not (eqb i 4)
+
+abbrev held : ℕ → List ℕ
+held i = cond (eqb i 3) (66 ∷ []) (65 ∷ [])
+
+-- of a table by number, from 1 on
+abbrev row : {A : Type 0} → A → List A → ℕ → A
+row z table i = getD table (i - 1) z
+
+-- WHAT THE COLUMNS SAY
+
+abbrev none : ℕ
+none = 65535
+
+-- what the sound columns 1, 2 and 3 say in each round, to every column alike
+abbrev said-by : ℕ → ℕ → List ℕ
+said-by round j =
+    row [] (row [] (
+      ((65 ∷ 65 ∷ []) ∷ (65 ∷ 65 ∷ []) ∷ (66 ∷ 66 ∷ []) ∷ [])
+      ∷ ((1 ∷ []) ∷ (1 ∷ []) ∷ (none ∷ []) ∷ [])
+      ∷ ((1 ∷ []) ∷ (1 ∷ []) ∷ (none ∷ []) ∷ [])
+      ∷ ((1 ∷ []) ∷ (0 ∷ []) ∷ (0 ∷ []) ∷ [])
+      ∷ ((none ∷ []) ∷ (none ∷ []) ∷ (none ∷ []) ∷ [])
+      ∷ ((1 ∷ []) ∷ (none ∷ []) ∷ (none ∷ []) ∷ [])
+      ∷ ((1 ∷ []) ∷ (1 ∷ []) ∷ (1 ∷ []) ∷ [])
+      ∷ ((1 ∷ []) ∷ (1 ∷ []) ∷ (1 ∷ []) ∷ [])
+      ∷ ((none ∷ []) ∷ (1 ∷ []) ∷ (none ∷ []) ∷ [])
+      ∷ ((65 ∷ []) ∷ (65 ∷ []) ∷ (none ∷ []) ∷ [])
+      ∷ ((65 ∷ []) ∷ (65 ∷ []) ∷ (65 ∷ []) ∷ [])
+      ∷ []
+    ) round) j
+
+-- what column 4 says to column i; no more than three rounds are told
+abbrev lie : ℕ → ℕ → List ℕ
+lie round i = row [] (row [] (((65 ∷ 65 ∷ []) ∷ (1 ∷ []) ∷ (1 ∷ []) ∷ []) ∷ ((65 ∷ 65 ∷ []) ∷ (1 ∷ []) ∷ []) ∷ []) i) round
+
+-- what column i listens to: at its own place anything, here 7
+abbrev inbox : ℕ → ℕ → List ℕ
+inbox i round = rowsOf (λ j. said (cond (eqb j i) (7 ∷ 7 ∷ []) (cond (eqb j 4) (lie round i) (said-by round j)))) (values 4 1 round) 4
+
+-- what it hands to a call to speak: anything of the required length, here sevens
+abbrev out : ℕ → ℕ → List ℕ
+out i round = listOf (λ k. 7) (4 * values 4 1 round)
+
+-- THE LISTS OF CALLS
+
+-- rounds of calls, with others before each call to speak (`idle`) and before each call to listen (`busy`), and others at the end
+unfoldable pub noisy : List Item → List Item → List Item → (ℕ → List ℕ) → (ℕ → List ℕ) → ℕ → ℕ → List Item
+noisy idle busy end outs inboxes round zero = end
+noisy idle busy end outs inboxes round (suc left) =
+    idle ++ (leading (Speaks (outs round)) ∷ busy ++ (leading (Listens (inboxes round)) ∷ noisy idle busy end outs inboxes (suc round) left))
+
+-- column 1 is asked too early (9), listens and speaks out of turn (8, 7), and is asked and spoken to after the end (10); column 2 speaks
+-- and listens with slices that are too short (4); column 3 does nothing of the kind
+abbrev lists : ℕ → List Item
+lists i =
+    row [] (
+      noisy (extra Asks ∷ extra (Listens (1 ∷ 2 ∷ [])) ∷ []) (extra (Speaks []) ∷ extra Asks ∷ []) (extra Asks ∷ extra (Speaks (5 ∷ [])) ∷ extra Asks ∷ []) (out 1) (inbox 1) 1 11
+      ∷ noisy (extra (Speaks (9 ∷ [])) ∷ []) (extra (Listens []) ∷ []) [] (out 2) (inbox 2) 1 11
+      ∷ noisy [] [] [] (out 3) (inbox 3) 1 11
+      ∷ []
+    ) i
+
+-- WHAT IS COMPUTED
+
+-- what column j writes in the round after q rounds
+abbrev slice : ℕ → ℕ → List ℕ
+slice j q = toAll 4 (values 4 1 (suc q)) (said-by (suc q) j)
+
+-- a sound column's list of calls
+record Plays (i : ℕ) : Type 0 where
+  in-turn : leadingCalls (lists i) ≡ turns (out i) (inbox i) 1 (rounds 4)
+  extras : T (extrasFit (made 4 1 held i) (lists i))
+  wrote-slices : wrote (made 4 1 held i) (lists i) ≡ listOf (slice i) 11
+
+record Computed : Type 0 where
+  plays-1 : Plays 1
+  plays-2 : Plays 2
+  plays-3 : Plays 3
+  -- "1 sound grade 2 .. 2 sound grade 1 .. 3 sound grade 0"
+  leaves-2 : leaves 4 1 held lists 1 ≡ 2
+  leaves-1 : leaves 4 1 held lists 2 ≡ 1
+  leaves-0 : leaves 4 1 held lists 3 ≡ 0
+  -- column 3 held another record and ends on 41
+  ends-on-41 : Answers 1 (final (made 4 1 held 3) (lists 3)) (some (65 ∷ []))
+
+computed : Computed
+unfolding noisy toAll final callOf afterLeading leadingCalls turns extrasFit wrote refusalIn recordIn count all listOf rowsOf part value faults degree blocks rounds values outside refusalOfSizes readPoint readReport readBit said from refusal unlessRefused heard heardFrom heardOfAll times point valuesAt decoded found seek through under slopes decodedAs polynomialOf phases bits chosen proposal settled firm word crowned exchange agreesIn agreesWith agreementAt agreements agrees firstQuorum firstReport reportAt reports reported both secondQuorum secondReport readReports grade spoken pointsIn points least often keptPoint keptAt keptPoints pointAt blockOf there coefficient isByte isBlock byteAt recordOf freshColumn stageFits byteFits flagFits pointFits numbersFit arraysFit fits withStage withBytes withProposal withAgreements withReports withGrade withVote withKept kingRound laterRound kindOf votesOne spreads message outgoing received kingSaid graded firstVote resettled outcomeOf endsOn goesOn hears refusalOf answerOf answered freshRefusal fresh roundOf whenSpeaking whenListening whenAsked inState inRound speakRefusal speak written listenRefusal listen outcomeRefusal ending replyOf shown outcome refusalAt after asks made
+computed =
+    record {
+      plays-1 = record { in-turn = refl; extras = tt; wrote-slices = refl };
+      plays-2 = record { in-turn = refl; extras = tt; wrote-slices = refl };
+      plays-3 = record { in-turn = refl; extras = tt; wrote-slices = refl };
+      leaves-2 = refl;
+      leaves-1 = refl;
+      leaves-0 = refl;
+      ends-on-41 = (refl, refl);
+    }
+
+-- THE PREMISES
+
+-- the sound columns are 1, 2 and 3
+each : (P : ℕ → Type 0) → P 1 → P 2 → P 3 → (i : ℕ) → Sound 4 sound i → P i
+each P a b c zero s = absurd (omega (arith, s .0))
+each P a b c (suc zero) s = a
+each P a b c (suc (suc zero)) s = b
+each P a b c (suc (suc (suc zero))) s = c
+each P a b c (suc (suc (suc (suc zero)))) s = absurd (s .2)
+each P a b c (suc (suc (suc (suc (suc i))))) s = absurd (omega (arith, s .1))
+
+plays : (i : ℕ) → Sound 4 sound i → Plays i
+plays = each Plays (computed .plays-1) (computed .plays-2) (computed .plays-3)
+
+-- where another sound column listens, what a sound column said is delivered
+delivered : (r : ℕ) → 1 ≤ r → r ≤ rounds 4 → Delivered 4 sound (values 4 1 r) (λ j. getD (wrote (made 4 1 held j) (lists j)) (r - 1) []) (λ i. inbox i r)
+unfolding Delivered toAll rounds faults
+delivered r l u i j k si sj ne h =
+    let first : r - 1 < 11 = omega (arith, eleven) in
+    let round : suc (r - 1) ≡ r = omega arith in
+    inRow-rowsOf (λ j. said (cond (eqb j i) (7 ∷ 7 ∷ []) (cond (eqb j 4) (lie r i) (said-by r j)))) (values 4 1 r) 4 j k blank (sj .0) (sj .1) h
+    ∙ rw (ne-eqb j i ne, is-false (eqb j 4) (λ t. T-not (eqb j 4) (sj .2) t))
+    (sym (ap (λ (s : List ℕ). inRow (values 4 1 r) s i k blank) (ap (λ (s : List (List ℕ)). getD s (r - 1) []) (plays j sj .wrote-slices) ∙ getD-listOf (slice j) 11 (r - 1) [] first ∙ ap (λ (r : ℕ). toAll 4 (values 4 1 r) (said-by r j)) round)
+    ∙ inRow-rowsOf (λ i. said (said-by r j)) (values 4 1 r) 4 i k blank (si .0) (si .1) h))
+  where
+    eleven : rounds 4 ≡ 11
+    eleven = refl
+
+pub run : Run 4 1 sound held lists out inbox
+unfolding count faults
+run =
+    record {
+      wall = record { low = omega arith; high = omega arith; few = le-refl 1 };
+      bytes-low = omega arith;
+      bytes-high = omega arith;
+      records = each (λ i. (length (held i) ≡ 1) × Below 256 (held i)) (refl, small 65 (omega arith)) (refl, small 65 (omega arith)) (refl, small 66 (omega arith));
+      in-turn = λ i si. plays i si .in-turn;
+      out-length = λ i r si l u. length-listOf (λ k. 7) (4 * values 4 1 r);
+      inbox-length = λ i r si l u. length-rowsOf (λ j. said (cond (eqb j i) (7 ∷ 7 ∷ []) (cond (eqb j 4) (lie r i) (said-by r j)))) (values 4 1 r) 4;
+      extras = λ i si. plays i si .extras;
+      mail = delivered;
+    }
+  where
+    small : (v : ℕ) → v < 256 → Below 256 (v ∷ [])
+    small v h zero = h
+    small v h (suc p) = omega arith
+
+-- so the theorem speaks of it: all three end on 41
+pub demand : Demand 4 1 sound held lists
+demand = third-demand run

@@ -7,9 +7,10 @@ use mathlib.Core.Option.{Option, none, some}
 use Prim.Native.Nat.{ℕ, zero, suc, _≤_}
 use native.Mathlib.Omega.{arith}
 use native.Mathlib.Decide.{decLe}
+use borrow.Author.Tests.{eqb-true, eqb-false, eq-eqb, ne-eqb}
 use lib.Dec.{T, eqb, leb, leb→le, eqb→eq}
-use Rattle.lists.specs.Lists.{bit, count, same}
-use Rattle.lists.specs.Tests.{conj, and-left, and-both, by-contra}
+use Rattle.lists.specs.Lists.{count, same}
+use Rattle.lists.specs.Tests.{eq→eqb, conj, and-left, and-both, by-contra}
 use Rattle.lists.specs.Entries.{same-eq, same-refl}
 use Rattle.lists.specs.Count.{mono, find, Found, count-pos}
 use Rattle.sizes.specs.Sizes.{faults}
@@ -20,7 +21,7 @@ use Rattle.dispersal.specs.Run.{keeps}
 use Rattle.dissemination.specs.Run.{inputs}
 use Rattle.agreement.specs.Rounds.{votesOne, spreads, firstVote}
 use Rattle.agreement.specs.Claim.{holds}
-use Rattle.agreement.specs.Protocols.{at, Courses, bytes, course-graded, votes, first-vote, phase, grade-stays, has, decides, decides-none, decides-record}
+use Rattle.agreement.specs.Protocols.{Courses, state, bytes, course-graded, votes, first-vote, phase, grade-stays, has, decides, decides-none, decides-record}
 
 pub record Decision {n m : ℕ} {H : ℕ → Bool} {held : ℕ → List ℕ} {inbox : ℕ → ℕ → List ℕ} (C : Courses n m H held inbox) : Type 0 where
   -- the wall's outcome, a record in its 32 places
@@ -29,35 +30,38 @@ pub record Decision {n m : ℕ} {H : ℕ → Bool} {held : ℕ → List ℕ} {in
   pub many-held : (r : List ℕ) → decided ≡ some r → suc (faults n) ≤ count (holds H (bytes C) r) n
   pub all-alike : (r : List ℕ) → ((i : ℕ) → Sound n H i → bytes C i ≡ r) → decided ≡ some r
 
+-- "The vote starts as 1 exactly at grade 2"
+vote-zero : (g : ℕ) → (g ≡ 2 → ⊥) → firstVote g ≡ 0
+unfolding firstVote
+vote-zero g ne = simp (ne-eqb g 2 ne)
+
+vote-one : (g : ℕ) → g ≡ 2 → firstVote g ≡ 1
+unfolding firstVote
+vote-one g e = simp (eq-eqb g 2 e)
+
 module _ {n m : ℕ} {H : ℕ → Bool} {held : ℕ → List ℕ} {inbox : ℕ → ℕ → List ℕ} (C : Courses n m H held inbox) where
   -- the grade with which column i leaves
   abbrev g : ℕ → ℕ
-  g i = at n m held inbox i 3 .grade
+  g i = state C i 3 .grade
 
   -- the sound columns that leave with grade 2
   abbrev top : ℕ → Bool
   top i = H i && eqb (g i) 2
 
-  start-bits : (i : ℕ) → Sound n H i → votes C 0 i ≤ 1
-  unfolding firstVote
-  start-bits i si = rw (first-vote C i) (go (eqb (g i) 2))
-    where
-      go : (b : Bool) → bit b ≤ 1
-      go true = omega arith
-      go false = omega arith
-
-  -- where nobody leaves with grade 2, all votes start as 0
+  -- all votes start as 0 where nobody leaves with grade 2
   start-zero : count top n ≡ 0 → (i : ℕ) → Sound n H i → votes C 0 i ≡ 0
-  unfolding firstVote
-  start-zero z i si = first-vote C i ∙ go (eqb (g i) 2) refl
-    where
-      go : (b : Bool) → eqb (g i) 2 ≡ b → bit b ≡ 0
-      go true e = omega (arith, count-pos top n i (si .0) (si .1) (and-both (H i) (eqb (g i) 2) (si .2) (rw e tt)))
-      go false e = refl
+  start-zero z i si =
+      first-vote C i ∙ vote-zero (g i) (λ e. omega (arith, count-pos top n i (si .0) (si .1) (and-both (H i) (eqb (g i) 2) (si .2) (eq→eqb (g i) 2 e))))
 
   start-one : (i : ℕ) → g i ≡ 2 → votes C 0 i ≡ 1
-  unfolding firstVote
-  start-one i e = first-vote C i ∙ rw e refl
+  start-one i e = first-vote C i ∙ vote-one (g i) e
+
+  start-bits : (i : ℕ) → Sound n H i → votes C 0 i ≤ 1
+  start-bits i si = go (eqb (g i) 2) refl
+    where
+      go : (b : Bool) → eqb (g i) 2 ≡ b → votes C 0 i ≤ 1
+      go true e = omega (arith, start-one i (eqb-true (g i) 2 e))
+      go false e = omega (arith, first-vote C i, vote-zero (g i) (eqb-false (g i) 2 e))
 
   -- all votes after the phases are 1, and column c left with grade 2: all end on its record
   module _ (ones : (i : ℕ) → Sound n H i → votes C (phases n) i ≡ 1) (c : ℕ) (sc : Sound n H c) (two : g c ≡ 2) where

@@ -2,10 +2,10 @@
 -- column 3 held 42 (hexadecimal). Column 4 is unsound: it tells columns 1 and 2 that it held 41 as they did, sends its first report to both and its second
 -- to column 1 alone, and column 3 gets nothing. Refused calls and calls for the outcome stand among the others.
 use mathlib.Core.Path.{_≡_, refl, sym, ap, _∙_}
-use mathlib.Core.Bool.{Bool, true, false, not, cond}
-use mathlib.Core.List.{List, [], _∷_, _++_}
+use mathlib.Core.Bool.{Bool, not, cond}
+use mathlib.Core.List.{List, [], _∷_, _++_, append-nil}
 use mathlib.Core.Option.{some}
-use Prim.Native.Nat.{ℕ, zero, suc, _+_, _-_, _*_, _≤_, _<_}
+use Prim.Native.Nat.{ℕ, zero, suc, _-_, _*_, _≤_, _<_}
 use native.Mathlib.Nat.{le-refl}
 use native.Mathlib.Omega.{arith}
 use borrow.Author.Tests.{ne-eqb}
@@ -19,7 +19,7 @@ use Rattle.field.specs.Field.{blank}
 use Rattle.block.specs.Block.{part, value}
 use Rattle.sizes.specs.Sizes.{faults, degree, blocks, rounds, values, outside, refusal as refusalOfSizes}
 use Rattle.messages.specs.Messages.{readPoint, readReport, readBit, said, from, toAll, refusal, unlessRefused, heard, heardFrom, heardOfAll, times}
-use Rattle.messages.specs.Wall.{Wall, Sound, Delivered}
+use Rattle.messages.specs.Wall.{Sound, Delivered}
 use Rattle.codeword.specs.Codeword.{point, values as valuesAt}
 use Rattle.decoder.specs.Decoder.{decoded, found, seek, through, under, slopes, answerOf as decodedAs, polynomialOf}
 use Rattle.king.specs.King.{phases, bits, chosen, proposal, settled, firm, word, crowned}
@@ -29,7 +29,7 @@ use Rattle.agreement.specs.Column.{freshColumn, stageFits, byteFits, fla
 use Rattle.agreement.specs.Parts.{withStage, withBytes, withProposal, withAgreements, withReports, withGrade, withVote, withKept}
 use Rattle.agreement.specs.Rounds.{kingRound, laterRound, kindOf, votesOne, spreads, message, outgoing, received, kingSaid, graded, firstVote, resettled, outcomeOf, endsOn, goesOn, hears}
 use Rattle.agreement.specs.Calls.{refusalOf, answerOf, answered, freshRefusal, fresh, roundOf, whenSpeaking, whenListening, whenAsked, inState, inRound, speakRefusal, speak, written, listenRefusal, listen, outcomeRefusal, ending, replyOf, shown, outcome, refusalIn, recordIn}
-use Rattle.agreement.specs.Claim.{Call, Speaks, Listens, Asks, Item, leading, extra, callOf, refusalAt, after, final, afterLeading, leadingCalls, turns, asks, extrasFit, wrote, made, Run, Answers, leaves, Demand}
+use Rattle.agreement.specs.Claim.{Speaks, Listens, Asks, Item, leading, extra, callOf, refusalAt, after, final, afterLeading, leadingCalls, turns, asks, extrasFit, wrote, made, Run, Answers, leaves, Demand}
 use Rattle.agreement.specs.Theorem.{third-demand}
 
 -- column 4 is unsound
@@ -52,18 +52,18 @@ none = 65535
 abbrev said-by : ℕ → ℕ → List ℕ
 said-by round j =
     row [] (row [] (
-      ((65 ∷ 65 ∷ []) ∷ (65 ∷ 65 ∷ []) ∷ (66 ∷ 66 ∷ []) ∷ [])
-      ∷ ((1 ∷ []) ∷ (1 ∷ []) ∷ (none ∷ []) ∷ [])
-      ∷ ((1 ∷ []) ∷ (1 ∷ []) ∷ (none ∷ []) ∷ [])
-      ∷ ((1 ∷ []) ∷ (0 ∷ []) ∷ (0 ∷ []) ∷ [])
-      ∷ ((none ∷ []) ∷ (none ∷ []) ∷ (none ∷ []) ∷ [])
-      ∷ ((1 ∷ []) ∷ (none ∷ []) ∷ (none ∷ []) ∷ [])
-      ∷ ((1 ∷ []) ∷ (1 ∷ []) ∷ (1 ∷ []) ∷ [])
-      ∷ ((1 ∷ []) ∷ (1 ∷ []) ∷ (1 ∷ []) ∷ [])
-      ∷ ((none ∷ []) ∷ (1 ∷ []) ∷ (none ∷ []) ∷ [])
-      ∷ ((65 ∷ []) ∷ (65 ∷ []) ∷ (none ∷ []) ∷ [])
-      ∷ ((65 ∷ []) ∷ (65 ∷ []) ∷ (65 ∷ []) ∷ [])
-      ∷ []
+    ((65 ∷ 65 ∷ []) ∷ (65 ∷ 65 ∷ []) ∷ (66 ∷ 66 ∷ []) ∷ [])
+    ∷ ((1 ∷ []) ∷ (1 ∷ []) ∷ (none ∷ []) ∷ [])
+    ∷ ((1 ∷ []) ∷ (1 ∷ []) ∷ (none ∷ []) ∷ [])
+    ∷ ((1 ∷ []) ∷ (0 ∷ []) ∷ (0 ∷ []) ∷ [])
+    ∷ ((none ∷ []) ∷ (none ∷ []) ∷ (none ∷ []) ∷ [])
+    ∷ ((1 ∷ []) ∷ (none ∷ []) ∷ (none ∷ []) ∷ [])
+    ∷ ((1 ∷ []) ∷ (1 ∷ []) ∷ (1 ∷ []) ∷ [])
+    ∷ ((1 ∷ []) ∷ (1 ∷ []) ∷ (1 ∷ []) ∷ [])
+    ∷ ((none ∷ []) ∷ (1 ∷ []) ∷ (none ∷ []) ∷ [])
+    ∷ ((65 ∷ []) ∷ (65 ∷ []) ∷ (none ∷ []) ∷ [])
+    ∷ ((65 ∷ []) ∷ (65 ∷ []) ∷ (65 ∷ []) ∷ [])
+    ∷ []
     ) round) j
 
 -- what column 4 says to column i; no more than three rounds are told
@@ -91,10 +91,10 @@ noisy idle busy end outs inboxes round (suc left) =
 abbrev lists : ℕ → List Item
 lists i =
     row [] (
-      noisy (extra Asks ∷ extra (Listens (1 ∷ 2 ∷ [])) ∷ []) (extra (Speaks []) ∷ extra Asks ∷ []) (extra Asks ∷ extra (Speaks (5 ∷ [])) ∷ extra Asks ∷ []) (out 1) (inbox 1) 1 11
-      ∷ noisy (extra (Speaks (9 ∷ [])) ∷ []) (extra (Listens []) ∷ []) [] (out 2) (inbox 2) 1 11
-      ∷ noisy [] [] [] (out 3) (inbox 3) 1 11
-      ∷ []
+    noisy (extra Asks ∷ extra (Listens (1 ∷ 2 ∷ [])) ∷ []) (extra (Speaks []) ∷ extra Asks ∷ []) (extra Asks ∷ extra (Speaks (5 ∷ [])) ∷ extra Asks ∷ []) (out 1) (inbox 1) 1 11
+    ∷ noisy (extra (Speaks (9 ∷ [])) ∷ []) (extra (Listens []) ∷ []) [] (out 2) (inbox 2) 1 11
+    ∷ noisy [] [] [] (out 3) (inbox 3) 1 11
+    ∷ []
     ) i
 
 -- WHAT IS COMPUTED
@@ -113,6 +113,12 @@ record Computed : Type 0 where
   plays-1 : Plays 1
   plays-2 : Plays 2
   plays-3 : Plays 3
+  -- each refusal from the state, where it stands
+  too-early : refusalAt (made 4 1 held 1) Asks ≡ 9
+  to-speak : refusalAt (made 4 1 held 1) (Listens (inbox 1 1)) ≡ 8
+  to-listen : refusalAt (after (made 4 1 held 1) (Speaks (out 1 1))) (Speaks (out 1 1)) ≡ 7
+  too-short : refusalAt (made 4 1 held 2) (Speaks (9 ∷ [])) ≡ 4
+  after-the-end : refusalAt (final (made 4 1 held 1) (lists 1)) (Speaks (out 1 1)) ≡ 10
   -- "1 sound grade 2 .. 2 sound grade 1 .. 3 sound grade 0"
   leaves-2 : leaves 4 1 held lists 1 ≡ 2
   leaves-1 : leaves 4 1 held lists 2 ≡ 1
@@ -127,6 +133,11 @@ computed =
       plays-1 = record { in-turn = refl; extras = tt; wrote-slices = refl };
       plays-2 = record { in-turn = refl; extras = tt; wrote-slices = refl };
       plays-3 = record { in-turn = refl; extras = tt; wrote-slices = refl };
+      too-early = refl;
+      to-speak = refl;
+      to-listen = refl;
+      too-short = refl;
+      after-the-end = refl;
       leaves-2 = refl;
       leaves-1 = refl;
       leaves-0 = refl;
@@ -180,6 +191,10 @@ run =
     small v h zero = h
     small v h (suc p) = omega arith
 
--- so the theorem speaks of it: all three end on 41
+-- so the theorem speaks of it: the wall's outcome is 41
 pub demand : Demand 4 1 sound held lists
 demand = third-demand run
+
+pub decided-41 : demand .decided ≡ some (65 ∷ [])
+unfolding leadingCalls
+decided-41 = sym (demand .same-outcome 3 (omega arith, omega arith, tt) (lists 3) [] (sym (append-nil (lists 3))) refl .1) ∙ computed .ends-on-41 .1

@@ -20,15 +20,12 @@ unfolding phases
 rounds-of n = omega (arith, rounds-are n)
 
 module _ (n round : ℕ) where
-  later : 4 ≤ round → kindOf n round ≡ laterRound (3 * phases n) (round - 4)
-  unfolding kindOf
-  later h = simp (ne-eqb round 1 (omega arith), ne-eqb round 2 (omega arith), ne-eqb round 3 (omega arith))
-
+  -- the 3(t + 1) rounds from the fourth on are the king's
   in-phase : (q : ℕ) → q < 3 * phases n → round ≡ q + 4 → kindOf n round ≡ kingRound q
-  unfolding laterRound
+  unfolding kindOf laterRound
   in-phase q h e =
       let z : round - 4 ≡ q = omega arith in
-      later (omega arith) ∙ rw (z, lt-ltb q (3 * phases n) h)
+      simp (ne-eqb round 1 (omega arith), ne-eqb round 2 (omega arith), ne-eqb round 3 (omega arith), z, lt-ltb q (3 * phases n) h)
 
   -- phase p + 1, of king p + 1
   module _ (p : ℕ) (h : p < phases n) where
@@ -52,16 +49,16 @@ module _ (n round : ℕ) where
         in-phase (3 * p + 2) (omega arith) (omega arith) ∙ rw (a, b)
 
   pub kind-points : round ≡ 3 * phases n + 4 → kindOf n round ≡ Points
-  unfolding laterRound
+  unfolding kindOf laterRound
   kind-points e =
       let z : round - 4 ≡ 3 * phases n = omega arith in
-      later (omega arith) ∙ rw (z, le-ltb (3 * phases n) (3 * phases n) (omega arith), eq-eqb (3 * phases n) (3 * phases n) refl)
+      simp (ne-eqb round 1 (omega arith), ne-eqb round 2 (omega arith), ne-eqb round 3 (omega arith), z, le-ltb (3 * phases n) (3 * phases n) (omega arith), eq-eqb (3 * phases n) (3 * phases n) refl)
 
   pub kind-kept : round ≡ 3 * phases n + 5 → kindOf n round ≡ KeptPoints
-  unfolding laterRound
+  unfolding kindOf laterRound
   kind-kept e =
       let z : round - 4 ≡ 3 * phases n + 1 = omega arith in
-      later (omega arith) ∙ rw (z, le-ltb (3 * phases n + 1) (3 * phases n) (omega arith), ne-eqb (3 * phases n + 1) (3 * phases n) (omega arith))
+      simp (ne-eqb round 1 (omega arith), ne-eqb round 2 (omega arith), ne-eqb round 3 (omega arith), z, le-ltb (3 * phases n + 1) (3 * phases n) (omega arith), ne-eqb (3 * phases n + 1) (3 * phases n) (omega arith))
 
 -- a round of the kind ends the run
 unfoldable pub ends : Kind → Bool

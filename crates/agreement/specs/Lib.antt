@@ -5,12 +5,12 @@ pub mod Rounds
 pub mod Calls
 pub mod Claim
 pub mod Kinds
-pub mod Keeps
-pub mod Ranges
-pub mod Turns
 pub mod Course
-pub mod Walk
 pub mod Protocols
 pub mod Decision
+pub mod Endings
+pub mod Turns
+pub mod Ranges
+pub mod Walk
 pub mod Theorem
 pub mod Example

@@ -32,8 +32,7 @@ use Rattle.agreement.specs.Column.{freshColumn}
 use Rattle.agreement.specs.Parts.{withStage, withProposal, withAgreements, withReports, withGrade, withVote, withKept}
 use Rattle.agreement.specs.Rounds.{kindOf, votesOne, spreads, message, outgoing, received, kingSaid, graded, firstVote, resettled, outcomeOf, endsOn, goesOn, hears}
 use Rattle.agreement.specs.Kinds.{rounds-of, kind-votes, kind-proposals, kind-king, kind-points, kind-kept}
-use Rattle.agreement.specs.Keeps.{Is}
-use Rattle.agreement.specs.Course.{course, course-is}
+use Rattle.agreement.specs.Course.{Is, course, listening, course-is}
 
 -- the messages of a round, of a known kind and width
 outgoing-is : (n m : ℕ) (c : Column) (round : ℕ) (kind : Kind) (w : ℕ) → c .n ≡ n → c .m ≡ m → kindOf n round ≡ kind → values n m round ≡ w
@@ -45,21 +44,18 @@ outgoing-is n m c round kind w en em ek ew =
     ∙ ap (λ (k : Kind). rowsOf (λ j. said (message k c j)) (values n m round) n) ek
     ∙ ap (λ (x : ℕ). rowsOf (λ j. said (message kind c j)) x n) ew
 
--- column i after q rounds, where it held the record `held i` and listened to the slices `inbox i`
-abbrev pub at : ℕ → ℕ → (ℕ → List ℕ) → (ℕ → ℕ → List ℕ) → ℕ → ℕ → Column
-at n m held inbox i q = course n (freshColumn n m i (held i)) (inbox i) q
-
 -- the sound columns of a wall, round by round
 pub record Courses (n m : ℕ) (H : ℕ → Bool) (held : ℕ → List ℕ) (inbox : ℕ → ℕ → List ℕ) : Type 0 where
   pub wall : Wall n H
   pub bytes-low : 1 ≤ m
   pub bytes-high : m ≤ 32
   pub records : (i : ℕ) → Sound n H i → Held m (part (held i) 0 32)
-  pub delivered : (q : ℕ) → q < rounds n → Delivered n H (values n m (suc q)) (λ j. outgoing (at n m held inbox j q) (suc q)) (λ i. inbox i (suc q))
+  pub delivered : (q : ℕ) → q < rounds n → Delivered n H (values n m (suc q)) (λ j. outgoing (course n m j (held j) (inbox j) q) (suc q)) (λ i. inbox i (suc q))
 
 module _ {n m : ℕ} {H : ℕ → Bool} {held : ℕ → List ℕ} {inbox : ℕ → ℕ → List ℕ} (C : Courses n m H held inbox) where
-  abbrev state : ℕ → ℕ → Column
-  state i q = at n m held inbox i q
+  -- column i after q rounds
+  abbrev pub state : ℕ → ℕ → Column
+  state i q = course n m i (held i) (inbox i) q
 
   -- the record in its 32 places
   abbrev pub bytes : ℕ → List ℕ
@@ -69,9 +65,9 @@ module _ {n m : ℕ} {H : ℕ → Bool} {held : ℕ → List ℕ} {inbox : ℕ �
   is i q l = course-is n m i (held i) (inbox i) q l .0
 
   -- a round of a known kind
-  next : (i q : ℕ) (kind : Kind) → kindOf n (suc q) ≡ kind → state i (suc q) ≡ hears kind (suc q) (withStage (Listen (suc q)) (state i q)) (inbox i (suc q))
+  next : (i q : ℕ) (kind : Kind) → kindOf n (suc q) ≡ kind → state i (suc q) ≡ hears kind (suc q) (listening n m i (held i) (inbox i) q) (inbox i (suc q))
   unfolding course
-  next i q kind e = ap (λ (k : Kind). hears k (suc q) (withStage (Listen (suc q)) (state i q)) (inbox i (suc q))) e
+  next i q kind e = ap (λ (k : Kind). hears k (suc q) (listening n m i (held i) (inbox i) q) (inbox i (suc q))) e
 
   -- and what is delivered in it, where column j's messages of w values are told otherwise
   sent : (q w : ℕ) (kind : Kind) (told : ℕ → ℕ → List ℕ) → q < rounds n → kindOf n (suc q) ≡ kind → values n m (suc q) ≡ w
@@ -277,7 +273,7 @@ module _ {n m : ℕ} {H : ℕ → Bool} {held : ℕ → List ℕ} {inbox : ℕ �
 
   -- column i, to listen in the last round
   abbrev pub lastly : ℕ → Column
-  lastly i = withStage (Listen (suc (suc spread))) (state i (suc spread))
+  lastly i = listening n m i (held i) (inbox i) (suc spread)
 
   -- what it ends on
   unfoldable pub decides : ℕ → Option (List ℕ)

@@ -1,9 +1,9 @@
 -- No call leaves a state that a later one would refuse with 11.
-use mathlib.Core.Path.{_≡_, refl, _∙_}
+use mathlib.Core.Path.{_≡_, refl, ap, _∙_}
 use mathlib.Core.Bool.{Bool, true, false, not, _||_, cond}
 use mathlib.Core.List.{List}
 use mathlib.Core.Option.{Option, none, some}
-use Prim.Native.Nat.{ℕ, _+_, _≤_, _<_}
+use Prim.Native.Nat.{ℕ, _+_, _≤_, _<_, zero, suc}
 use native.Mathlib.Omega.{arith}
 use native.Mathlib.Decide.{decLt}
 use lib.Dec.{T, eqb, ltb, lt→ltb, ltb→lt}
@@ -24,21 +24,22 @@ use Rattle.dissemination.specs.Dissemination.{recordOf}
 use Rattle.dissemination.specs.Laws.{keptPoints-read, keptPoints-past, record-past}
 use Rattle.agreement.specs.declared.Outcome.the-variants.{Nothing, Record}
 use Rattle.agreement.specs.declared.Stage.{Stage}
-use Rattle.agreement.specs.declared.Stage.the-variants.{Speak, Ended}
+use Rattle.agreement.specs.declared.Stage.the-variants.{Speak, Ended, Listen}
 use Rattle.agreement.specs.declared.Column.{Column}
 use Rattle.agreement.specs.declared.Kind.{Kind}
 use Rattle.agreement.specs.declared.Kind.the-variants.{Exchange, FirstReport, SecondReport, Votes, Proposals, King, Points, KeptPoints}
 use Rattle.agreement.specs.Column.{freshColumn, stageFits, byteFits, flagFits, pointFits, numbersFit, arraysFit, fits}
 use Rattle.agreement.specs.Parts.{withStage, withBytes, withProposal, withAgreements, withReports, withGrade, withVote, withKept}
-use Rattle.agreement.specs.Rounds.{votesOne, spreads, received, kingSaid, graded, firstVote, resettled, outcomeOf, endsOn, goesOn, hears}
-use Rattle.agreement.specs.Kinds.{ends}
+use Rattle.agreement.specs.Rounds.{votesOne, spreads, received, kingSaid, graded, firstVote, resettled, outcomeOf, endsOn, goesOn, hears, kindOf}
+use Rattle.agreement.specs.Kinds.{ends, before-last}
+use Rattle.agreement.specs.Course.{course, listening, course-is}
 
 ruleset conjunction = (and-left, and-right, and-both)
 
 -- A COLUMN THAT FITS, WITH ONE PART CHANGED
 
 module _ (c : Column) (h : T (fits c)) where
-  pub with-stage : (stage : Stage) → T (stageFits (c .n) stage) → T (fits (withStage stage c))
+  with-stage : (stage : Stage) → T (stageFits (c .n) stage) → T (fits (withStage stage c))
   unfolding fits numbersFit arraysFit withStage
   with-stage stage g = search conjunction
 
@@ -112,7 +113,7 @@ bit-fits true = tt
 bit-fits false = tt
 
 -- a round of the run
-pub round-fits : (n round : ℕ) → 1 ≤ round → round ≤ rounds n → T (not (outside 1 (rounds n) round))
+round-fits : (n round : ℕ) → 1 ≤ round → round ≤ rounds n → T (not (outside 1 (rounds n) round))
 round-fits n round l h = rw (not-outside 1 (rounds n) round l h) tt
 
 -- LISTENING
@@ -128,7 +129,7 @@ goes-fits : (round : ℕ) (c : Column) → round < rounds (c .n) → T (fits c) 
 unfolding goesOn stageFits
 goes-fits round c l h = with-stage c h (Speak (round + 1)) (round-fits (c .n) (round + 1) (omega arith) (omega arith))
 
-pub hears-fits : (kind : Kind) (round : ℕ) (c : Column) (inbox : List ℕ) → (ends kind ≡ false → round < rounds (c .n)) → T (fits c) → T (fits (hears kind round c inbox))
+hears-fits : (kind : Kind) (round : ℕ) (c : Column) (inbox : List ℕ) → (ends kind ≡ false → round < rounds (c .n)) → T (fits c) → T (fits (hears kind round c inbox))
 unfolding hears withProposal withAgreements withReports withGrade withVote withKept graded firstVote resettled outcomeOf ends
 hears-fits Exchange round c inbox l h =
     goes-fits round _ (l refl) (with-agreements c h _ (flags-fit (c .n) _ (agreements-past (c .n) (c .m) (c .own) (c .bytes) inbox)))
@@ -152,7 +153,7 @@ hears-fits KeptPoints round c inbox l h = ends-fits c h (outcomeOf c inbox) (dec
 
 -- A FRESH COLUMN
 
-pub fresh-fits : (n m own : ℕ) (bytes : List ℕ) → refusal n m own ≡ 0 → length bytes ≡ m → T (fits (freshColumn n m own bytes))
+fresh-fits : (n m own : ℕ) (bytes : List ℕ) → refusal n m own ≡ 0 → length bytes ≡ m → T (fits (freshColumn n m own bytes))
 unfolding fits numbersFit arraysFit freshColumn stageFits readBit readPoint
 fresh-fits n m own bytes e h =
     let sizes : T (eqb (refusal n m own) 0) = eq→eqb (refusal n m own) 0 e in
@@ -162,3 +163,18 @@ fresh-fits n m own bytes e h =
     let flags : T (all (flagFits n (replicate 31 false)) 31) = flags-fit n (replicate 31 false) (λ i l u. getD-replicate 31 i false false u) in
     let points : T (all (pointFits (blocks n m) (replicate 32 blank)) 32) = points-fit (blocks n m) (replicate 32 blank) (λ k u. rw (getD-replicate 32 k blank blank u) refl) (λ k u l. getD-replicate 32 k blank blank u) in
     search conjunction
+
+-- THE COURSE OF A COLUMN
+
+module _ (n m own : ℕ) (bytes : List ℕ) (inbox : ℕ → List ℕ) (accepted : refusal n m own ≡ 0) (full : length bytes ≡ m) where
+  pub listening-fits : (q : ℕ) → q < rounds n → T (fits (course n m own bytes inbox q)) → T (fits (listening n m own bytes inbox q))
+  unfolding stageFits
+  listening-fits q l h =
+      with-stage (course n m own bytes inbox q) h (Listen (suc q)) (rw (course-is n m own bytes inbox q l .0 .n-is) (round-fits n (suc q) (omega arith) (omega arith)))
+
+  pub course-fits : (q : ℕ) → q ≤ rounds n → T (fits (course n m own bytes inbox q))
+  unfolding course withStage
+  course-fits zero l = fresh-fits n m own bytes accepted full
+  course-fits (suc q) l =
+      hears-fits (kindOf n (suc q)) (suc q) (listening n m own bytes inbox q) (inbox (suc q)) (λ e.
+      rw (course-is n m own bytes inbox q (omega arith) .0 .n-is) (before-last n (suc q) l e)) (listening-fits q l (course-fits q (omega arith)))

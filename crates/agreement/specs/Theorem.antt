@@ -10,7 +10,7 @@ use lib.Dec.{T, eqb, leb}
 use lib.ListN.{length, getD, take, List·getD-eq-default}
 use lib.Seq.{ext-getD, getD-take, length-take-le}
 use Rattle.lists.specs.Lists.{count, same}
-use Rattle.lists.specs.Tests.{conj, and-both, is-true}
+use Rattle.lists.specs.Tests.{conj, and-both}
 use Rattle.lists.specs.Entries.{same-eq, same-refl}
 use Rattle.lists.specs.Count.{mono}
 use Rattle.block.specs.Block.{part}
@@ -24,15 +24,16 @@ use Rattle.king.specs.Phases.{sound-king}
 use Rattle.dispersal.specs.Run.{Graded, keeps}
 use Rattle.agreement.specs.declared.Column.{Column}
 use Rattle.agreement.specs.Column.{fits}
-use Rattle.agreement.specs.Parts.{withStage, withBytes}
 use Rattle.agreement.specs.Rounds.{outgoing, endsOn}
-use Rattle.agreement.specs.Calls.{answered, freshRefusal, fresh, inState, whenAsked, outcomeRefusal, ending, replyOf, shown, outcome, refusalIn, recordIn}
+use Rattle.agreement.specs.Calls.{answered, freshRefusal, fresh}
 use Rattle.agreement.specs.Claim.{Call, Item, leading, extra, refusalAt, after, asks, final, afterLeading, leadingCalls, turns, extrasFit, noneRefused, wrote, made, Run, holds, Answers, leaves, Demand}
 use Rattle.agreement.specs.Turns.{answer-is}
-use Rattle.agreement.specs.Course.{course, course-fits}
+use Rattle.agreement.specs.Course.{course}
+use Rattle.agreement.specs.Ranges.{course-fits}
 use Rattle.agreement.specs.Walk.{Ready, Walked, walk}
-use Rattle.agreement.specs.Protocols.{at, Courses, course-graded, lastly, last-state}
+use Rattle.agreement.specs.Protocols.{Courses, course-graded, lastly, last-state}
 use Rattle.agreement.specs.Decision.{Decision, decision}
+use Rattle.agreement.specs.Endings.{shortened, ended-answers}
 
 -- A RECORD OF m BYTES IN 32 PLACES
 
@@ -51,17 +52,6 @@ module _ (m : ℕ) (high : m ≤ 32) (r : List ℕ) (full : length r ≡ m) wher
       go : Dec (p < 32) → getD (part r 0 32) p 0 ≡ 0
       go (yes l) = getD-part r 0 32 p l ∙ List·getD-eq-default r 0 {n = 0 + p} (omega arith)
       go (no l) = List·getD-eq-default (part r 0 32) 0 {n = p} (omega (arith, length-part r 0 32))
-
--- WHAT A COLUMN THAT ENDED ANSWERS
-
-shortened : ℕ → Option (List ℕ) → Option (List ℕ)
-shortened m none = none
-shortened m (some r) = some (take m r)
-
-ended-answers : (m : ℕ) (c : Column) (o : Option (List ℕ)) → T (fits (endsOn o c)) → Answers m (endsOn o c) (shortened m o)
-unfolding outcome replyOf outcomeRefusal inState whenAsked ending shown refusalIn recordIn endsOn shortened withStage withBytes
-ended-answers m c none h = rw (is-true (fits (endsOn none c)) h) (refl, refl)
-ended-answers m c (some r) h = rw (is-true (fits (endsOn (some r) c)) h) (refl, refl)
 
 -- A LIST WHOSE LEADING CALLS ALL STAND BEFORE
 
@@ -82,7 +72,7 @@ extras-before c (extra call ∷ before) behind h =
 
 module _ {n m : ℕ} {H : ℕ → Bool} {held : ℕ → List ℕ} {lists : ℕ → List Item} {out inbox : ℕ → ℕ → List ℕ} (R : Run n m H held lists out inbox) where
   abbrev state : ℕ → ℕ → Column
-  state i q = at n m held inbox i q
+  state i q = course n m i (held i) (inbox i) q
 
   sized : (i : ℕ) → Sound n H i → refusalOfSizes n m i ≡ 0
   sized i si =
@@ -214,11 +204,10 @@ module _ {n m : ℕ} {H : ℕ → Bool} {held : ℕ → List ℕ} {lists : ℕ �
   unfolding fresh answered
   third-demand =
       record {
-        accepted = λ i si.
-            (
-              answer-is (freshRefusal n m i (length (held i))) ∙ not-refused-fresh i si,
-              subst (λ (c : Column). T (noneRefused c (lists i))) (sym (made-is i si)) (whole i si .none-refused),
-            );
+        accepted = λ i si. (
+          answer-is (freshRefusal n m i (length (held i))) ∙ not-refused-fresh i si,
+          subst (λ (c : Column). T (noneRefused c (lists i))) (sym (made-is i si)) (whole i si .none-refused),
+        );
         decided = shortened m (D .decided);
         same-outcome = answers;
         many-held = many (D .decided) refl;

@@ -3,21 +3,21 @@ use mathlib.Core.Path.{_≡_, refl, sym, ap, _∙_}
 use mathlib.Core.Bool.{Bool, true, false, not, _||_, cond}
 use mathlib.Core.List.{List}
 use Prim.Native.Nat.{ℕ, _*_}
-use borrow.Author.Tests.{eqb-true}
-use lib.Dec.{T, eqb}
+use borrow.Author.Tests.{ne-eqb, eqb-true}
+use lib.Dec.{T, eqb, T-not}
 use lib.ListN.{length}
-use Rattle.lists.specs.Tests.{is-true}
-use Rattle.sizes.specs.Sizes.{values}
+use Rattle.lists.specs.Tests.{is-true, eq→eqb}
+use Rattle.sizes.specs.Sizes.{values, outside, refusal as refusalOfSizes}
 use Rattle.messages.specs.Messages.{refusal}
-use Rattle.messages.specs.Laws.{not-refused, if-done}
+use Rattle.messages.specs.Laws.{not-refused, if-refused, if-done}
 use Rattle.agreement.specs.declared.Stage.{Stage}
 use Rattle.agreement.specs.declared.Stage.the-variants.{Speak, Listen}
 use Rattle.agreement.specs.declared.Column.{Column}
 use Rattle.agreement.specs.declared.Answer.the-variants.{Done, Refused}
-use Rattle.agreement.specs.Column.{fits}
+use Rattle.agreement.specs.Column.{freshColumn, numbersFit, fits}
 use Rattle.agreement.specs.Parts.{withStage}
 use Rattle.agreement.specs.Rounds.{kindOf, outgoing, hears}
-use Rattle.agreement.specs.Calls.{refusalOf, answerOf, answered, roundOf, whenSpeaking, whenListening, inState, inRound, speakRefusal, speak, written, listenRefusal, listen, outcome}
+use Rattle.agreement.specs.Calls.{refusalOf, answerOf, answered, noColumn, roundOf, whenSpeaking, whenListening, inState, inRound, speakRefusal, speak, written, listenRefusal, listen, outcomeRefusal, replyOf, outcome, refusalIn}
 use Rattle.agreement.specs.Claim.{Call, Speaks, Listens, Asks, refusalAt, after, asks}
 
 -- A CALL THAT IS REFUSED OR NOT
@@ -30,21 +30,36 @@ answer-is why = go (eqb why 0) refl
     go true e = sym (eqb-true why 0 e)
     go false e = refl
 
--- CALLS THAT CHANGE NOTHING
+-- "A refusal gives .. the state as it came; no lent slice is written."
 
-refused-keeps : (why : ℕ) (done before : Column) → T (not (eqb (refusalOf (answerOf why)) 0)) → cond (eqb why 0) done before ≡ before
-refused-keeps why done before h = go (eqb why 0) (rw (answer-is why) at h)
-  where
-    go : (b : Bool) → T (not b) → cond b done before ≡ before
-    go true h = absurd h
-    go false h = refl
+refused-keeps : (why : ℕ) (done before : Column) → (refusalOf (answerOf why) ≡ 0 → ⊥) → cond (eqb why 0) done before ≡ before
+refused-keeps why done before h = rw (ne-eqb why 0 (λ e. h (answer-is why ∙ e)))
 
--- a call for the outcome, or one that is refused
-pub extra-keeps : (c : Column) (call : Call) → T (asks call || not (eqb (refusalAt c call) 0)) → after c call ≡ c
-unfolding asks refusalAt after speak listen outcome answered
-extra-keeps c (Speaks out) h = refused-keeps (speakRefusal c (length out)) (withStage (Listen (roundOf (c .stage))) c) c h
-extra-keeps c (Listens inbox) h = refused-keeps (listenRefusal c (length inbox)) (hears (kindOf (c .n) (roundOf (c .stage))) (roundOf (c .stage)) c inbox) c h
-extra-keeps c Asks h = refl
+module _ (c : Column) where
+  pub refused-state : (call : Call) → (refusalAt c call ≡ 0 → ⊥) → after c call ≡ c
+  unfolding refusalAt after speak listen outcome answered
+  refused-state (Speaks out) h = refused-keeps (speakRefusal c (length out)) (withStage (Listen (roundOf (c .stage))) c) c h
+  refused-state (Listens inbox) h =
+      refused-keeps (listenRefusal c (length inbox)) (hears (kindOf (c .n) (roundOf (c .stage))) (roundOf (c .stage)) c inbox) c h
+  refused-state Asks h = refl
+
+  pub refused-slice : (out : List ℕ) → (refusalAt c (Speaks out) ≡ 0 → ⊥) → written c out ≡ out
+  unfolding refusalAt speak answered written
+  refused-slice out h = if-refused (speakRefusal c (length out)) (outgoing c (roundOf (c .stage))) out (λ e. h (answer-is (speakRefusal c (length out)) ∙ e))
+
+  -- a call for the outcome, or one that is refused
+  pub extra-keeps : (call : Call) → T (asks call || not (eqb (refusalAt c call) 0)) → after c call ≡ c
+  unfolding asks after outcome
+  extra-keeps (Speaks out) h = refused-state (Speaks out) (λ e. T-not (eqb (refusalAt c (Speaks out)) 0) h (eq→eqb (refusalAt c (Speaks out)) 0 e))
+  extra-keeps (Listens inbox) h = refused-state (Listens inbox) (λ e. T-not (eqb (refusalAt c (Listens inbox)) 0) h (eq→eqb (refusalAt c (Listens inbox)) 0 e))
+  extra-keeps Asks h = refl
+
+-- what stands beside a refused call to make a column: every later call refuses it with 11
+pub no-column : (call : Call) → refusalAt noColumn call ≡ 11
+unfolding refusalAt speak listen outcome answered refusalOf answerOf refusalIn replyOf speakRefusal listenRefusal outcomeRefusal inRound inState refusal noColumn freshColumn fits numbersFit refusalOfSizes outside
+no-column (Speaks out) = refl
+no-column (Listens inbox) = refl
+no-column Asks = refl
 
 -- CALLS IN TURN
 

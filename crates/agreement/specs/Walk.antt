@@ -9,15 +9,14 @@ use lib.ListN.{length, getD}
 use Rattle.lists.specs.Lists.{bit}
 use Rattle.lists.specs.Tests.{conj, and-both, eq→eqb}
 use Rattle.sizes.specs.Sizes.{rounds, values, refusal as refusalOfSizes}
-use Rattle.agreement.specs.declared.Stage.the-variants.{Listen}
 use Rattle.agreement.specs.declared.Column.{Column}
-use Rattle.agreement.specs.Column.{freshColumn}
 use Rattle.agreement.specs.Parts.{withStage}
 use Rattle.agreement.specs.Rounds.{kindOf, outgoing, hears}
 use Rattle.agreement.specs.Calls.{written}
 use Rattle.agreement.specs.Claim.{Call, Speaks, Listens, Asks, Item, leading, extra, callOf, refusalAt, after, final, afterLeading, leadingCalls, turns, asks, extrasFit, noneRefused, wrote}
 use Rattle.agreement.specs.Turns.{extra-keeps, spoke, listened}
-use Rattle.agreement.specs.Course.{course, course-is, listening-fits, course-fits}
+use Rattle.agreement.specs.Course.{course, listening, course-is}
+use Rattle.agreement.specs.Ranges.{listening-fits, course-fits}
 
 -- column `own` of n with the record `bytes`, which speaks into the slices `out` and listens to `inbox`, round by round: its sizes and its slices
 -- are as required
@@ -30,14 +29,11 @@ pub record Ready (n m own : ℕ) (bytes : List ℕ) (inbox out : ℕ → List �
 module _ (n m own : ℕ) (bytes : List ℕ) (inbox : ℕ → List ℕ) where
   -- after q rounds, to speak or to listen
   abbrev at : ℕ → Column
-  at q = course n (freshColumn n m own bytes) inbox q
-
-  abbrev listening : ℕ → Column
-  listening q = withStage (Listen (suc q)) (at q)
+  at q = course n m own bytes inbox q
 
   abbrev state : Bool → ℕ → Column
   state false q = at q
-  state true q = listening q
+  state true q = listening n m own bytes inbox q
 
   -- what a list of calls comes to, from a state of the course on
   pub record Walked (b : Bool) (q : ℕ) (items : List Item) : Type 0 where
@@ -76,17 +72,17 @@ module _ (n m own : ℕ) (bytes : List ℕ) (inbox : ℕ → List ℕ) where
     rest true q k = Listens (inbox (suc q)) ∷ turns out inbox (suc (suc q)) k
 
     speaks-in : (q : ℕ) (o : List ℕ) → q < rounds n → o ≡ out (suc q)
-        → (refusalAt (at q) (Speaks o) ≡ 0) × (after (at q) (Speaks o) ≡ listening q) × (written (at q) o ≡ outgoing (at q) (suc q))
+        → (refusalAt (at q) (Speaks o) ≡ 0) × (after (at q) (Speaks o) ≡ state true q) × (written (at q) o ≡ outgoing (at q) (suc q))
     speaks-in q o l e =
         let (is, stage) = course-is n m own bytes inbox q l in
         spoke (at q) (suc q) (course-fits n m own bytes inbox (A .accepted) (A .full) q (omega arith)) o stage (rw (is .n-is, is .m-is) (ap length e ∙ A .out-length (suc q) (omega arith) l))
 
-    listens-in : (q : ℕ) (x : List ℕ) → q < rounds n → x ≡ inbox (suc q) → (refusalAt (listening q) (Listens x) ≡ 0) × (after (listening q) (Listens x) ≡ at (suc q))
+    listens-in : (q : ℕ) (x : List ℕ) → q < rounds n → x ≡ inbox (suc q) → (refusalAt (state true q) (Listens x) ≡ 0) × (after (state true q) (Listens x) ≡ at (suc q))
     unfolding course withStage
     listens-in q x l e =
         let (is, stage) = course-is n m own bytes inbox q l in
-        let (done, next) = listened (listening q) (suc q) (listening-fits n m own bytes inbox (A .accepted) (A .full) q l (course-fits n m own bytes inbox (A .accepted) (A .full) q (omega arith))) x refl (rw (is .n-is, is .m-is) (ap length e ∙ A .inbox-length (suc q) (omega arith) l)) in
-        (done, next ∙ ap (λ (y : ℕ). hears (kindOf y (suc q)) (suc q) (listening q) x) (is .n-is) ∙ ap (hears (kindOf n (suc q)) (suc q) (listening q)) e)
+        let (done, next) = listened (state true q) (suc q) (listening-fits n m own bytes inbox (A .accepted) (A .full) q l (course-fits n m own bytes inbox (A .accepted) (A .full) q (omega arith))) x refl (rw (is .n-is, is .m-is) (ap length e ∙ A .inbox-length (suc q) (omega arith) l)) in
+        (done, next ∙ ap (λ (y : ℕ). hears (kindOf y (suc q)) (suc q) (state true q) x) (is .n-is) ∙ ap (hears (kindOf n (suc q)) (suc q) (state true q)) e)
 
     -- a leading call more in front
     module _ {items : List Item} {q : ℕ} where
@@ -101,10 +97,10 @@ module _ (n m own : ℕ) (bytes : List ℕ) (inbox : ℕ → List ℕ) where
             led = led-on;
           }
         where
-          spoken : (refusalAt (at q) (Speaks o) ≡ 0) × (after (at q) (Speaks o) ≡ listening q) × (written (at q) o ≡ outgoing (at q) (suc q))
+          spoken : (refusalAt (at q) (Speaks o) ≡ 0) × (after (at q) (Speaks o) ≡ state true q) × (written (at q) o ≡ outgoing (at q) (suc q))
           spoken = speaks-in q o h same
 
-          next : after (at q) (Speaks o) ≡ listening q
+          next : after (at q) (Speaks o) ≡ state true q
           next = spoken .1
 
           wrote-on : (p r : ℕ) → q + 0 + p ≡ r → r < rounds n → getD (wrote (at q) (leading (Speaks o) ∷ items)) p [] ≡ outgoing (at r) (suc r)
@@ -119,17 +115,17 @@ module _ (n m own : ℕ) (bytes : List ℕ) (inbox : ℕ → List ℕ) where
       unfolding noneRefused final callOf wrote afterLeading
       listen-in-front x h same w =
           record {
-            none-refused = and-both (eqb (refusalAt (listening q) (Listens x)) 0) (noneRefused (after (listening q) (Listens x)) items) (eq→eqb (refusalAt (listening q) (Listens x)) 0 (listens-in q x h same .0))
+            none-refused = and-both (eqb (refusalAt (state true q) (Listens x)) 0) (noneRefused (after (state true q) (Listens x)) items) (eq→eqb (refusalAt (state true q) (Listens x)) 0 (listens-in q x h same .0))
                 (subst (λ (c : Column). T (noneRefused c items)) (sym next) (w .none-refused));
             ended = ap (λ (c : Column). final c items) next ∙ w .ended;
             wrote-at = λ p r i l. ap (λ (c : Column). getD (wrote c items) p []) next ∙ w .wrote-at p r (omega arith) l;
             led = led-on;
           }
         where
-          next : after (listening q) (Listens x) ≡ at (suc q)
+          next : after (state true q) (Listens x) ≡ at (suc q)
           next = listens-in q x h same .1
 
-          led-on : (s r : ℕ) → 2 * q + 1 + s ≡ 2 * r → r ≤ rounds n → afterLeading s (listening q) (leading (Listens x) ∷ items) ≡ at r
+          led-on : (s r : ℕ) → 2 * q + 1 + s ≡ 2 * r → r ≤ rounds n → afterLeading s (state true q) (leading (Listens x) ∷ items) ≡ at r
           led-on zero r i l = absurd (omega arith)
           led-on (suc s) r i l = ap (λ (c : Column). afterLeading s c items) next ∙ w .led s r (omega arith) l
 

@@ -4,10 +4,10 @@ use mathlib.Core.Path.{_≡_, refl, ap, subst, _∙_}
 use mathlib.Core.Bool.{Bool, true, false, _&&_}
 use mathlib.Core.List.{List}
 use mathlib.Core.Option.{Option, none, some}
-use Prim.Native.Nat.{ℕ, zero, suc, _≤_}
+use Prim.Native.Nat.{ℕ, zero, suc, _≤_, _<_}
 use native.Mathlib.Omega.{arith}
 use native.Mathlib.Decide.{decLe}
-use borrow.Author.Tests.{eqb-true, eqb-false, eq-eqb, ne-eqb}
+use borrow.Author.Tests.{eqb-true, eqb-false}
 use lib.Dec.{T, eqb, leb, leb→le, eqb→eq}
 use Rattle.lists.specs.Lists.{count, same}
 use Rattle.lists.specs.Tests.{eq→eqb, conj, and-left, and-both, by-contra}
@@ -21,7 +21,7 @@ use Rattle.dispersal.specs.Run.{keeps}
 use Rattle.dissemination.specs.Run.{inputs}
 use Rattle.agreement.specs.Rounds.{votesOne, spreads, firstVote}
 use Rattle.agreement.specs.Claim.{holds}
-use Rattle.agreement.specs.Protocols.{Courses, state, bytes, course-graded, votes, first-vote, phase, grade-stays, has, decides, decides-none, decides-record}
+use Rattle.agreement.specs.Protocols.{Courses, state, bytes, course-graded, grade-small, votes, first-vote, phase, grade-stays, has, decides, decides-none, decides-record}
 
 pub record Decision {n m : ℕ} {H : ℕ → Bool} {held : ℕ → List ℕ} {inbox : ℕ → ℕ → List ℕ} (C : Courses n m H held inbox) : Type 0 where
   -- the wall's outcome, a record in its 32 places
@@ -31,13 +31,16 @@ pub record Decision {n m : ℕ} {H : ℕ → Bool} {held : ℕ → List ℕ} {in
   pub all-alike : (r : List ℕ) → ((i : ℕ) → Sound n H i → bytes C i ≡ r) → decided ≡ some r
 
 -- "The vote starts as 1 exactly at grade 2"
-vote-zero : (g : ℕ) → (g ≡ 2 → ⊥) → firstVote g ≡ 0
+vote-zero : (g : ℕ) → g < 3 → (g ≡ 2 → ⊥) → firstVote g ≡ 0
 unfolding firstVote
-vote-zero g ne = simp (ne-eqb g 2 ne)
+vote-zero zero l ne = refl
+vote-zero (suc zero) l ne = refl
+vote-zero (suc (suc zero)) l ne = absurd (ne refl)
+vote-zero (suc (suc (suc g))) l ne = absurd (omega arith)
 
-vote-one : (g : ℕ) → g ≡ 2 → firstVote g ≡ 1
+vote-one : firstVote 2 ≡ 1
 unfolding firstVote
-vote-one g e = simp (eq-eqb g 2 e)
+vote-one = refl
 
 module _ {n m : ℕ} {H : ℕ → Bool} {held : ℕ → List ℕ} {inbox : ℕ → ℕ → List ℕ} (C : Courses n m H held inbox) where
   -- the grade with which column i leaves
@@ -51,17 +54,17 @@ module _ {n m : ℕ} {H : ℕ → Bool} {held : ℕ → List ℕ} {inbox : ℕ �
   -- all votes start as 0 where nobody leaves with grade 2
   start-zero : count top n ≡ 0 → (i : ℕ) → Sound n H i → votes C 0 i ≡ 0
   start-zero z i si =
-      first-vote C i ∙ vote-zero (g i) (λ e. omega (arith, count-pos top n i (si .0) (si .1) (and-both (H i) (eqb (g i) 2) (si .2) (eq→eqb (g i) 2 e))))
+      first-vote C i ∙ vote-zero (g i) (grade-small C i) (λ e. omega (arith, count-pos top n i (si .0) (si .1) (and-both (H i) (eqb (g i) 2) (si .2) (eq→eqb (g i) 2 e))))
 
   start-one : (i : ℕ) → g i ≡ 2 → votes C 0 i ≡ 1
-  start-one i e = first-vote C i ∙ vote-one (g i) e
+  start-one i e = first-vote C i ∙ ap firstVote e ∙ vote-one
 
   start-bits : (i : ℕ) → Sound n H i → votes C 0 i ≤ 1
   start-bits i si = go (eqb (g i) 2) refl
     where
       go : (b : Bool) → eqb (g i) 2 ≡ b → votes C 0 i ≤ 1
       go true e = omega (arith, start-one i (eqb-true (g i) 2 e))
-      go false e = omega (arith, first-vote C i, vote-zero (g i) (eqb-false (g i) 2 e))
+      go false e = omega (arith, first-vote C i, vote-zero (g i) (grade-small C i) (eqb-false (g i) 2 e))
 
   -- all votes after the phases are 1, and column c left with grade 2: all end on its record
   module _ (ones : (i : ℕ) → Sound n H i → votes C (phases n) i ≡ 1) (c : ℕ) (sc : Sound n H c) (two : g c ≡ 2) where

@@ -19,6 +19,7 @@ use Rattle.king.specs.King.{phases, proposal, firm, word}
 use Rattle.king.specs.Phase.{Phase}
 use Rattle.king.specs.Calls as K
 use Rattle.dispersal.specs.Dispersal.{exchange, exchanges}
+use Rattle.dispersal.specs.Laws.{grade-lt}
 use Rattle.dispersal.specs.Run.{Graded}
 use Rattle.dispersal.specs.Calls.{firstOf, secondOf, leavesWith, calls-graded}
 use Rattle.dissemination.specs.Dissemination.{spoken, points, pointsToAll}
@@ -87,6 +88,9 @@ module _ {n m : ℕ} {H : ℕ → Bool} {held : ℕ → List ℕ} {inbox : ℕ �
   leaves-is : (i : ℕ) → state i 3 .grade ≡ leavesWith n m bytes (of 1) (of 2) (of 3) i
   unfolding course freshColumn kindOf hears goesOn withStage withAgreements withReports withGrade withVote graded received message
   leaves-is i = refl
+
+  pub grade-small : (i : ℕ) → state i 3 .grade < 3
+  grade-small i = rw (leaves-is i) (grade-lt n i _ _ _)
 
   sent₁ : Delivered n H (2 * blocks n m) (λ j. exchanges n m j (bytes j)) (of 1)
   unfolding course freshColumn message exchanges kindOf

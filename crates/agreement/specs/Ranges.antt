@@ -1,5 +1,5 @@
 -- No call leaves a state that a later one would refuse with 11.
-use mathlib.Core.Path.{_≡_, refl, ap, _∙_}
+use mathlib.Core.Path.{_≡_, refl, _∙_}
 use mathlib.Core.Bool.{Bool, true, false, not, _||_, cond}
 use mathlib.Core.List.{List}
 use mathlib.Core.Option.{Option, none, some}
@@ -8,7 +8,7 @@ use native.Mathlib.Omega.{arith}
 use native.Mathlib.Decide.{decLt}
 use lib.Dec.{T, eqb, ltb, lt→ltb, ltb→lt}
 use lib.ListN.{getD, replicate, length, getD-replicate, List·getD-eq-default}
-use Rattle.lists.specs.Lists.{bit, all}
+use Rattle.lists.specs.Lists.{all}
 use Rattle.lists.specs.Tests.{and-left, and-right, and-both, or-left, or-right, eq→eqb}
 use Rattle.lists.specs.Entries.{each-all}
 use Rattle.field.specs.Field.{blank}
@@ -19,6 +19,7 @@ use Rattle.sizes.specs.Laws.{rounds-are, not-outside}
 use Rattle.messages.specs.Messages.{readPoint, readBit}
 use Rattle.king.specs.Laws.{proposal-reads, settled-bit, crowned-bit}
 use Rattle.king.specs.King.{firm, crowned}
+use Rattle.dispersal.specs.Dispersal.{agrees, reported}
 use Rattle.dispersal.specs.Laws.{agreements-past, reports-past, grade-lt}
 use Rattle.dissemination.specs.Dissemination.{recordOf}
 use Rattle.dissemination.specs.Laws.{keptPoints-read, keptPoints-past, record-past}
@@ -108,9 +109,13 @@ points-fit b kept f h =
     go k l (yes a) = or-left (ltb k b) (eqb (getD kept k blank) blank) (lt→ltb k b a)
     go k l (no a) = or-right (ltb k b) (eqb (getD kept k blank) blank) (eq→eqb (getD kept k blank) blank (h k l (omega arith)))
 
-bit-fits : (b : Bool) → T (ltb (bit b) 2)
-bit-fits true = tt
-bit-fits false = tt
+-- the vote that a grade gives
+first-fits : (g : ℕ) → g < 3 → T (ltb (firstVote g) 2)
+unfolding firstVote
+first-fits zero l = tt
+first-fits (suc zero) l = tt
+first-fits (suc (suc zero)) l = tt
+first-fits (suc (suc (suc g))) l = absurd (omega arith)
 
 -- a round of the run
 round-fits : (n round : ℕ) → 1 ≤ round → round ≤ rounds n → T (not (outside 1 (rounds n) round))
@@ -130,12 +135,13 @@ unfolding goesOn stageFits
 goes-fits round c l h = with-stage c h (Speak (round + 1)) (round-fits (c .n) (round + 1) (omega arith) (omega arith))
 
 hears-fits : (kind : Kind) (round : ℕ) (c : Column) (inbox : List ℕ) → (ends kind ≡ false → round < rounds (c .n)) → T (fits c) → T (fits (hears kind round c inbox))
-unfolding hears withProposal withAgreements withReports withGrade withVote withKept graded firstVote resettled outcomeOf ends
+unfolding hears withProposal withAgreements withReports withGrade withVote withKept graded resettled outcomeOf ends
 hears-fits Exchange round c inbox l h =
     goes-fits round _ (l refl) (with-agreements c h _ (flags-fit (c .n) _ (agreements-past (c .n) (c .m) (c .own) (c .bytes) inbox)))
 hears-fits FirstReport round c inbox l h = goes-fits round _ (l refl) (with-reports c h _ (flags-fit (c .n) _ (reports-past (c .n) (received FirstReport c inbox))))
 hears-fits SecondReport round c inbox l h =
-    goes-fits round _ (l refl) (with-grade _ (with-vote c h (firstVote (graded c inbox)) (c .firm) (bit-fits (eqb (graded c inbox) 2))) _ (lt→ltb (graded c inbox) 3 (grade-lt _ _ _ _ _)))
+    let small : graded c inbox < 3 = grade-lt (c .n) (c .own) (agrees (c .agreements)) (reported (c .reports)) (received SecondReport c inbox) in
+    goes-fits round _ (l refl) (with-grade _ (with-vote c h (firstVote (graded c inbox)) (c .firm) (first-fits (graded c inbox) small)) _ (lt→ltb (graded c inbox) 3 small))
 hears-fits Votes round c inbox l h = goes-fits round _ (l refl) (with-proposal c h _ (eq→eqb _ _ (proposal-reads (c .n) (received Votes c inbox))))
 hears-fits Proposals round c inbox l h =
     goes-fits round _ (l refl) (with-vote c h _ _ (lt→ltb (resettled c inbox) 2 (settled-bit (c .n) (received Proposals c inbox) (c .vote) (ltb→lt (c .vote) 2 (vote-fits c h)))))

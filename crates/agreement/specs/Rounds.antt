@@ -19,13 +19,13 @@ use Rattle.agreement.specs.Parts.{withStage, withBytes, withProposal, wi
 
 -- THE KINDS OF ROUNDS
 
--- "t + 1 phases of three rounds, king of phase k is column k": the kind of the round after q king rounds
+-- "t + 1 phases of three rounds, king of phase k is column k": the kind of the king's round that follows q others
 unfoldable pub kingRound : ℕ → Kind
 kingRound q = cond (eqb (q % 3) 0) Votes (cond (eqb (q % 3) 1) Proposals (King (q / 3 + 1)))
 
--- the kind of the round after q rounds of dispersal and the king rule, `last` being the number of the king rounds
+-- the kind of round q + 4, where `many` rounds are the king's
 unfoldable pub laterRound : ℕ → ℕ → Kind
-laterRound last q = cond (ltb q last) (kingRound q) (cond (eqb q last) Points KeptPoints)
+laterRound many q = cond (ltb q many) (kingRound q) (cond (eqb q many) Points KeptPoints)
 
 -- "1. Exchange", "2. First report", "3. Second report", "4. Rounds 4 to 3t + 6 .. the king rule", "5. Round 3t + 7", "6. Round 3t + 8"
 unfoldable pub kindOf : ℕ → ℕ → Kind

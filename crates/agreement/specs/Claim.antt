@@ -7,9 +7,9 @@ use mathlib.Core.Option.{Option, some}
 use Prim.Native.Nat.{ℕ, zero, suc, _-_, _*_, _≤_}
 use lib.Dec.{T, eqb}
 use lib.ListN.{length, getD}
-use Rattle.lists.specs.Lists.{count, same, Below}
+use Rattle.lists.specs.Lists.{count, Below}
 use Rattle.sizes.specs.Sizes.{faults, rounds, values}
-use Rattle.messages.specs.Wall.{Wall, Sound, Delivered}
+use Rattle.messages.specs.Wall.{Wall, Sound, holds, Delivered}
 use Rattle.dispersal.specs.Run.{Graded}
 use Rattle.agreement.specs.declared.Column.{Column}
 use Rattle.agreement.specs.Calls.{refusalOf, fresh, speak, written, listen, outcome, refusalIn, recordIn}
@@ -64,16 +64,20 @@ unfoldable pub turns : (ℕ → List ℕ) → (ℕ → List ℕ) → ℕ → ℕ
 turns out inbox round zero = []
 turns out inbox round (suc left) = Speaks (out round) ∷ Listens (inbox round) ∷ turns out inbox (suc round) left
 
-unfoldable pub asks : Call → Bool
-asks (Speaks out) = false
-asks (Listens inbox) = false
-asks Asks = true
+unfoldable pub isAsking : Call → Bool
+isAsking (Speaks out) = false
+isAsking (Listens inbox) = false
+isAsking Asks = true
+
+-- a call for the outcome, or one that is refused in the state c
+unfoldable pub idle : Column → Call → Bool
+idle c call = isAsking call || not (eqb (refusalAt c call) 0)
 
 -- "Calls that the rules below refuse may stand anywhere among them, with anything in their slices, and so may calls for the outcome."
-unfoldable pub extrasFit : Column → List Item → Bool
-extrasFit c [] = true
-extrasFit c (leading call ∷ items) = extrasFit (after c call) items
-extrasFit c (extra call ∷ items) = (asks call || not (eqb (refusalAt c call) 0)) && extrasFit (after c call) items
+unfoldable pub extrasIdle : Column → List Item → Bool
+extrasIdle c [] = true
+extrasIdle c (leading call ∷ items) = extrasIdle (after c call) items
+extrasIdle c (extra call ∷ items) = idle c call && extrasIdle (after c call) items
 
 -- "that none of them is refused is part of the claim"
 unfoldable pub noneRefused : Column → List Item → Bool
@@ -106,16 +110,12 @@ pub record Run (n m : ℕ) (H : ℕ → Bool) (held : ℕ → List ℕ) (lists :
   pub in-turn : (i : ℕ) → Sound n H i → leadingCalls (lists i) ≡ turns (out i) (inbox i) 1 (rounds n)
   pub out-length : (i r : ℕ) → Sound n H i → 1 ≤ r → r ≤ rounds n → length (out i r) ≡ n * values n m r
   pub inbox-length : (i r : ℕ) → Sound n H i → 1 ≤ r → r ≤ rounds n → length (inbox i r) ≡ n * values n m r
-  pub extras : (i : ℕ) → Sound n H i → T (extrasFit (made n m held i) (lists i))
+  pub extras : (i : ℕ) → Sound n H i → T (extrasIdle (made n m held i) (lists i))
   -- "the message from another sound column j is what j's call to speak wrote for i in that round; i's own place holds anything. A message
   -- from an unsound column is any 16-bit values": nothing is said of these
   pub mail : (r : ℕ) → 1 ≤ r → r ≤ rounds n → Delivered n H (values n m r) (λ j. getD (wrote (made n m held j) (lists j)) (r - 1) []) (λ i. inbox i r)
 
 -- THE CLAIM
-
--- column i is sound and held the record r at the start
-abbrev pub holds : (ℕ → Bool) → (ℕ → List ℕ) → List ℕ → ℕ → Bool
-holds H held r i = H i && same (held i) r
 
 -- a call for the outcome answers, with none or a record's m bytes
 abbrev pub Answers : ℕ → Column → Option (List ℕ) → Type 0

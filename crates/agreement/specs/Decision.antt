@@ -14,13 +14,12 @@ use Rattle.lists.specs.Tests.{eq→eqb, conj, and-left, and-both, by-contra}
 use Rattle.lists.specs.Entries.{same-eq, same-refl}
 use Rattle.lists.specs.Count.{mono, find, Found, count-pos}
 use Rattle.sizes.specs.Sizes.{faults}
-use Rattle.messages.specs.Wall.{Sound}
+use Rattle.messages.specs.Wall.{Sound, holds}
 use Rattle.king.specs.King.{phases}
 use Rattle.king.specs.Phases.{sound-king, agreement, validity}
 use Rattle.dispersal.specs.Run.{keeps}
 use Rattle.dissemination.specs.Run.{inputs}
 use Rattle.agreement.specs.Rounds.{votesOne, spreads, firstVote}
-use Rattle.agreement.specs.Claim.{holds}
 use Rattle.agreement.specs.Protocols.{Courses, state, bytes, course-graded, grade-small, votes, first-vote, phase, grade-stays, has, decides, decides-none, decides-record}
 
 pub record Decision {n m : ℕ} {H : ℕ → Bool} {held : ℕ → List ℕ} {inbox : ℕ → ℕ → List ℕ} (C : Courses n m H held inbox) : Type 0 where

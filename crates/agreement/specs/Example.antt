@@ -29,7 +29,7 @@ use Rattle.agreement.specs.Column.{freshColumn, stageFits, byteFits, fla
 use Rattle.agreement.specs.Parts.{withStage, withBytes, withProposal, withAgreements, withReports, withGrade, withVote, withKept}
 use Rattle.agreement.specs.Rounds.{kingRound, laterRound, kindOf, votesOne, spreads, message, outgoing, received, kingSaid, graded, firstVote, resettled, outcomeOf, endsOn, goesOn, hears}
 use Rattle.agreement.specs.Calls.{refusalOf, answerOf, answered, freshRefusal, fresh, roundOf, whenSpeaking, whenListening, whenAsked, inState, inRound, speakRefusal, speak, written, listenRefusal, listen, outcomeRefusal, ending, replyOf, shown, outcome, refusalIn, recordIn}
-use Rattle.agreement.specs.Claim.{Speaks, Listens, Asks, Item, leading, extra, callOf, refusalAt, after, final, afterLeading, leadingCalls, turns, asks, extrasFit, wrote, made, Run, Answers, leaves, Demand}
+use Rattle.agreement.specs.Claim.{Speaks, Listens, Asks, Item, leading, extra, callOf, refusalAt, after, final, afterLeading, leadingCalls, turns, isAsking, idle, extrasIdle, wrote, made, Run, Answers, leaves, Demand}
 use Rattle.agreement.specs.Theorem.{third-demand}
 
 -- column 4 is unsound
@@ -106,7 +106,7 @@ slice j q = toAll 4 (values 4 1 (suc q)) (said-by (suc q) j)
 -- a sound column's list of calls
 record Plays (i : ℕ) : Type 0 where
   in-turn : leadingCalls (lists i) ≡ turns (out i) (inbox i) 1 (rounds 4)
-  extras : T (extrasFit (made 4 1 held i) (lists i))
+  extras : T (extrasIdle (made 4 1 held i) (lists i))
   wrote-slices : wrote (made 4 1 held i) (lists i) ≡ listOf (slice i) 11
 
 record Computed : Type 0 where
@@ -127,7 +127,7 @@ record Computed : Type 0 where
   ends-on-41 : Answers 1 (final (made 4 1 held 3) (lists 3)) (some (65 ∷ []))
 
 computed : Computed
-unfolding noisy toAll final callOf afterLeading leadingCalls turns extrasFit wrote refusalIn recordIn count all listOf rowsOf part value faults degree blocks rounds values outside refusalOfSizes readPoint readReport readBit said from refusal unlessRefused heard heardFrom heardOfAll times point valuesAt decoded found seek through under slopes decodedAs polynomialOf phases bits chosen proposal settled firm word crowned exchange agreesIn agreesWith agreementAt agreements agrees firstQuorum firstReport reportAt reports reported both secondQuorum secondReport readReports grade spoken pointsIn points least often keptPoint keptAt keptPoints pointAt blockOf there coefficient isByte isBlock byteAt recordOf freshColumn stageFits byteFits flagFits pointFits numbersFit arraysFit fits withStage withBytes withProposal withAgreements withReports withGrade withVote withKept kingRound laterRound kindOf votesOne spreads message outgoing received kingSaid graded firstVote resettled outcomeOf endsOn goesOn hears refusalOf answerOf answered freshRefusal fresh roundOf whenSpeaking whenListening whenAsked inState inRound speakRefusal speak written listenRefusal listen outcomeRefusal ending replyOf shown outcome refusalAt after asks made
+unfolding noisy toAll final callOf afterLeading leadingCalls turns extrasIdle wrote refusalIn recordIn count all listOf rowsOf part value faults degree blocks rounds values outside refusalOfSizes readPoint readReport readBit said from refusal unlessRefused heard heardFrom heardOfAll times point valuesAt decoded found seek through under slopes decodedAs polynomialOf phases bits chosen proposal settled firm word crowned exchange agreesIn agreesWith agreementAt agreements agrees firstQuorum firstReport reportAt reports reported both secondQuorum secondReport readReports grade spoken pointsIn points least often keptPoint keptAt keptPoints pointAt blockOf there coefficient isByte isBlock byteAt recordOf freshColumn stageFits byteFits flagFits pointFits numbersFit arraysFit fits withStage withBytes withProposal withAgreements withReports withGrade withVote withKept kingRound laterRound kindOf votesOne spreads message outgoing received kingSaid graded firstVote resettled outcomeOf endsOn goesOn hears refusalOf answerOf answered freshRefusal fresh roundOf whenSpeaking whenListening whenAsked inState inRound speakRefusal speak written listenRefusal listen outcomeRefusal ending replyOf shown outcome refusalAt after isAsking idle made
 computed =
     record {
       plays-1 = record { in-turn = refl; extras = tt; wrote-slices = refl };

@@ -1,12 +1,12 @@
 -- THE THIRD DEMAND, proved of the definitions that the calls' contracts cite: `third-demand`.
 use mathlib.Core.Path.{_≡_, refl, sym, ap, subst, _∙_}
-use mathlib.Core.Bool.{Bool, false, not, _||_}
+use mathlib.Core.Bool.{Bool, false}
 use mathlib.Core.List.{List, [], _∷_, _++_}
 use mathlib.Core.Option.{Option, none, some}
 use Prim.Native.Nat.{ℕ, suc, _+_, _-_, _≤_, _<_}
 use native.Mathlib.Omega.{arith}
 use native.Mathlib.Decide.{decLt}
-use lib.Dec.{T, eqb, leb}
+use lib.Dec.{T, leb}
 use lib.ListN.{length, getD, take, List·getD-eq-default}
 use lib.Seq.{ext-getD, getD-take, length-take-le}
 use Rattle.lists.specs.Lists.{count, same}
@@ -18,7 +18,7 @@ use Rattle.block.specs.Value.{getD-part, length-part, below-part}
 use Rattle.sizes.specs.Sizes.{faults, rounds, values, refusal as refusalOfSizes}
 use Rattle.sizes.specs.Laws.{rounds-are, not-refused as sizes-accepted}
 use Rattle.messages.specs.Laws.{not-refused}
-use Rattle.messages.specs.Wall.{Sound}
+use Rattle.messages.specs.Wall.{Sound, holds}
 use Rattle.messages.specs.Delivery.{delivered-as}
 use Rattle.king.specs.Phases.{sound-king}
 use Rattle.dispersal.specs.Run.{Graded, keeps}
@@ -26,7 +26,7 @@ use Rattle.agreement.specs.declared.Column.{Column}
 use Rattle.agreement.specs.Column.{fits}
 use Rattle.agreement.specs.Rounds.{outgoing, endsOn}
 use Rattle.agreement.specs.Calls.{answered, freshRefusal, fresh}
-use Rattle.agreement.specs.Claim.{Call, Item, leading, extra, refusalAt, after, asks, final, afterLeading, leadingCalls, turns, extrasFit, noneRefused, wrote, made, Run, holds, Answers, leaves, Demand}
+use Rattle.agreement.specs.Claim.{Call, Item, leading, extra, after, idle, final, afterLeading, leadingCalls, turns, extrasIdle, noneRefused, wrote, made, Run, Answers, leaves, Demand}
 use Rattle.agreement.specs.Turns.{answer-is}
 use Rattle.agreement.specs.Course.{course}
 use Rattle.agreement.specs.Ranges.{course-fits}
@@ -61,14 +61,14 @@ all-before [] behind e = e
 all-before (leading call ∷ before) behind e = ap (λ (calls : List Call). call ∷ calls) (all-before before behind e)
 all-before (extra call ∷ before) behind e = all-before before behind e
 
-extras-before : (c : Column) (before behind : List Item) → T (extrasFit c (before ++ behind)) → T (extrasFit c before)
-unfolding extrasFit
+extras-before : (c : Column) (before behind : List Item) → T (extrasIdle c (before ++ behind)) → T (extrasIdle c before)
+unfolding extrasIdle
 extras-before c [] behind h = tt
 extras-before c (leading call ∷ before) behind h = extras-before (after c call) before behind h
 extras-before c (extra call ∷ before) behind h =
-    let quiet : T (asks call || not (eqb (refusalAt c call) 0)) = search conj in
-    let others : T (extrasFit (after c call) (before ++ behind)) = search conj in
-    and-both (asks call || not (eqb (refusalAt c call) 0)) (extrasFit (after c call) before) quiet (extras-before (after c call) before behind others)
+    let quiet : T (idle c call) = search conj in
+    let others : T (extrasIdle (after c call) (before ++ behind)) = search conj in
+    and-both (idle c call) (extrasIdle (after c call) before) quiet (extras-before (after c call) before behind others)
 
 module _ {n m : ℕ} {H : ℕ → Bool} {held : ℕ → List ℕ} {lists : ℕ → List Item} {out inbox : ℕ → ℕ → List ℕ} (R : Run n m H held lists out inbox) where
   abbrev state : ℕ → ℕ → Column
@@ -96,10 +96,10 @@ module _ {n m : ℕ} {H : ℕ → Bool} {held : ℕ → List ℕ} {lists : ℕ �
       record { accepted = sized i si; full = R .records i si .0; out-length = λ r. R .out-length i r si; inbox-length = λ r. R .inbox-length i r si }
 
   -- a list of calls with all that lead through the rounds
-  walked : (i : ℕ) → Sound n H i → (items : List Item) → leadingCalls items ≡ turns (out i) (inbox i) 1 (rounds n) → T (extrasFit (made n m held i) items)
+  walked : (i : ℕ) → Sound n H i → (items : List Item) → leadingCalls items ≡ turns (out i) (inbox i) 1 (rounds n) → T (extrasIdle (made n m held i) items)
       → Walked n m i (held i) (inbox i) false 0 items
   walked i si items e h =
-      walk n m i (held i) (inbox i) (out i) (ready i si) items e (subst (λ (c : Column). T (extrasFit c items)) (made-is i si) h)
+      walk n m i (held i) (inbox i) (out i) (ready i si) items e (subst (λ (c : Column). T (extrasIdle c items)) (made-is i si) h)
 
   whole : (i : ℕ) → Sound n H i → Walked n m i (held i) (inbox i) false 0 (lists i)
   whole i si = walked i si (lists i) (R .in-turn i si) (R .extras i si)
@@ -140,7 +140,7 @@ module _ {n m : ℕ} {H : ℕ → Bool} {held : ℕ → List ℕ} {lists : ℕ �
       asked-in =
           ap (λ (c : Column). final c before) (made-is i si)
           ∙ walked i si before (sym (all-before before behind none-behind) ∙ ap leadingCalls (sym e) ∙ R .in-turn i si)
-          (extras-before (made n m held i) before behind (subst (λ (items : List Item). T (extrasFit (made n m held i) items)) e (R .extras i si))) .ended
+          (extras-before (made n m held i) before behind (subst (λ (items : List Item). T (extrasIdle (made n m held i) items)) e (R .extras i si))) .ended
           ∙ ended
 
   -- the m bytes of sound column i, from its 32 places

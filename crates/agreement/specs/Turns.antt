@@ -1,6 +1,6 @@
 -- One call: what is refused changes nothing, and what is in turn is not refused.
 use mathlib.Core.Path.{_≡_, refl, sym, ap, _∙_}
-use mathlib.Core.Bool.{Bool, true, false, not, _||_, cond}
+use mathlib.Core.Bool.{Bool, true, false, cond}
 use mathlib.Core.List.{List}
 use Prim.Native.Nat.{ℕ, _*_}
 use borrow.Author.Tests.{ne-eqb, eqb-true}
@@ -18,7 +18,7 @@ use Rattle.agreement.specs.Column.{freshColumn, numbersFit, fits}
 use Rattle.agreement.specs.Parts.{withStage}
 use Rattle.agreement.specs.Rounds.{kindOf, outgoing, hears}
 use Rattle.agreement.specs.Calls.{refusalOf, answerOf, answered, noColumn, roundOf, whenSpeaking, whenListening, inState, inRound, speakRefusal, speak, written, listenRefusal, listen, outcomeRefusal, replyOf, outcome, refusalIn}
-use Rattle.agreement.specs.Claim.{Call, Speaks, Listens, Asks, refusalAt, after, asks}
+use Rattle.agreement.specs.Claim.{Call, Speaks, Listens, Asks, refusalAt, after, isAsking, idle}
 
 -- A CALL THAT IS REFUSED OR NOT
 
@@ -48,8 +48,8 @@ module _ (c : Column) where
   refused-slice out h = if-refused (speakRefusal c (length out)) (outgoing c (roundOf (c .stage))) out (λ e. h (answer-is (speakRefusal c (length out)) ∙ e))
 
   -- a call for the outcome, or one that is refused
-  pub extra-keeps : (call : Call) → T (asks call || not (eqb (refusalAt c call) 0)) → after c call ≡ c
-  unfolding asks after outcome
+  pub extra-keeps : (call : Call) → T (idle c call) → after c call ≡ c
+  unfolding idle isAsking after outcome
   extra-keeps (Speaks out) h = refused-state (Speaks out) (λ e. T-not (eqb (refusalAt c (Speaks out)) 0) h (eq→eqb (refusalAt c (Speaks out)) 0 e))
   extra-keeps (Listens inbox) h = refused-state (Listens inbox) (λ e. T-not (eqb (refusalAt c (Listens inbox)) 0) h (eq→eqb (refusalAt c (Listens inbox)) 0 e))
   extra-keeps Asks h = refl

@@ -1,6 +1,6 @@
 -- A list of calls comes to the course of its rounds, whatever else the list holds.
 use mathlib.Core.Path.{_≡_, refl, sym, ap, _∙_, subst}
-use mathlib.Core.Bool.{Bool, true, false, not, _||_}
+use mathlib.Core.Bool.{Bool, true, false}
 use mathlib.Core.List.{List, [], _∷_}
 use Prim.Native.Nat.{ℕ, zero, suc, _+_, _*_, _≤_, _<_}
 use native.Mathlib.Omega.{arith}
@@ -13,7 +13,7 @@ use Rattle.agreement.specs.declared.Column.{Column}
 use Rattle.agreement.specs.Parts.{withStage}
 use Rattle.agreement.specs.Rounds.{kindOf, outgoing, hears}
 use Rattle.agreement.specs.Calls.{written}
-use Rattle.agreement.specs.Claim.{Call, Speaks, Listens, Asks, Item, leading, extra, callOf, refusalAt, after, final, afterLeading, leadingCalls, turns, asks, extrasFit, noneRefused, wrote}
+use Rattle.agreement.specs.Claim.{Call, Speaks, Listens, Asks, Item, leading, extra, callOf, refusalAt, after, final, afterLeading, leadingCalls, turns, idle, extrasIdle, noneRefused, wrote}
 use Rattle.agreement.specs.Turns.{extra-keeps, spoke, listened}
 use Rattle.agreement.specs.Course.{course, listening, course-is}
 use Rattle.agreement.specs.Ranges.{listening-fits, course-fits}
@@ -129,16 +129,16 @@ module _ (n m own : ℕ) (bytes : List ℕ) (inbox : ℕ → List ℕ) where
           led-on zero r i l = absurd (omega arith)
           led-on (suc s) r i l = ap (λ (c : Column). afterLeading s c items) next ∙ w .led s r (omega arith) l
 
-    walked : (items : List Item) (b : Bool) (q k : ℕ) → leadingCalls items ≡ rest b q k → T (extrasFit (state b q) items) → q + k + bit b ≡ rounds n → Walked b q items
-    unfolding leadingCalls turns extrasFit
+    walked : (items : List Item) (b : Bool) (q k : ℕ) → leadingCalls items ≡ rest b q k → T (extrasIdle (state b q) items) → q + k + bit b ≡ rounds n → Walked b q items
+    unfolding leadingCalls turns extrasIdle
     walked [] false q zero e h u = subst (λ (q : ℕ). Walked false q []) (omega arith) nothing-left
     walked [] false q (suc k) e h u = let z : _≡_ {A = ℕ} 0 1 = cc in absurd (omega arith)
     walked [] true q k e h u = let z : _≡_ {A = ℕ} 0 1 = cc in absurd (omega arith)
     walked (extra call ∷ items) b q k e h u =
-        let quiet : T (asks call || not (eqb (refusalAt (state b q) call) 0)) = search conj in
-        let others : T (extrasFit (after (state b q) call) items) = search conj in
+        let quiet : T (idle (state b q) call) = search conj in
+        let others : T (extrasIdle (after (state b q) call) items) = search conj in
         let keeps = extra-keeps (state b q) call quiet in
-        extra-in-front b call keeps (walked items b q k e (subst (λ (c : Column). T (extrasFit c items)) keeps others) u)
+        extra-in-front b call keeps (walked items b q k e (subst (λ (c : Column). T (extrasIdle c items)) keeps others) u)
     walked (leading call ∷ items) false q zero e h u = let z : _≡_ {A = ℕ} 0 1 = cc in absurd (omega arith)
     walked (leading (Listens x) ∷ items) false q (suc k) e h u = let z : _≡_ {A = ℕ} 0 1 = cc in absurd (omega arith)
     walked (leading Asks ∷ items) false q (suc k) e h u = let z : _≡_ {A = ℕ} 0 1 = cc in absurd (omega arith)
@@ -146,14 +146,14 @@ module _ (n m own : ℕ) (bytes : List ℕ) (inbox : ℕ → List ℕ) where
         let same : o ≡ out (suc q) = cc in
         let others : leadingCalls items ≡ rest true q k = cc in
         let next = speaks-in q o (omega arith) same .1 in
-        speak-in-front o (omega arith) same (walked items true q k others (subst (λ (c : Column). T (extrasFit c items)) next h) (omega arith))
+        speak-in-front o (omega arith) same (walked items true q k others (subst (λ (c : Column). T (extrasIdle c items)) next h) (omega arith))
     walked (leading (Speaks o) ∷ items) true q k e h u = let z : _≡_ {A = ℕ} 0 1 = cc in absurd (omega arith)
     walked (leading Asks ∷ items) true q k e h u = let z : _≡_ {A = ℕ} 0 1 = cc in absurd (omega arith)
     walked (leading (Listens x) ∷ items) true q k e h u =
         let same : x ≡ inbox (suc q) = cc in
         let others : leadingCalls items ≡ rest false (suc q) k = cc in
         let next = listens-in q x (omega arith) same .1 in
-        listen-in-front x (omega arith) same (walked items false (suc q) k others (subst (λ (c : Column). T (extrasFit c items)) next h) (omega arith))
+        listen-in-front x (omega arith) same (walked items false (suc q) k others (subst (λ (c : Column). T (extrasIdle c items)) next h) (omega arith))
 
-    pub walk : (items : List Item) → leadingCalls items ≡ turns out inbox 1 (rounds n) → T (extrasFit (at 0) items) → Walked false 0 items
+    pub walk : (items : List Item) → leadingCalls items ≡ turns out inbox 1 (rounds n) → T (extrasIdle (at 0) items) → Walked false 0 items
     walk items e h = walked items false 0 (rounds n) e h (omega arith)

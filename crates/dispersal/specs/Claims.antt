@@ -12,17 +12,13 @@ use Rattle.lists.specs.Entries.{same-eq, same-refl}
 use Rattle.lists.specs.Count.{count-all, count-not, cover, mono, law, law-if}
 use Rattle.sizes.specs.Sizes.{faults, degree}
 use Rattle.messages.specs.Messages.{readReport, times}
-use Rattle.messages.specs.Wall.{Wall, Sound}
+use Rattle.messages.specs.Wall.{Wall, Sound, holds}
 use Rattle.messages.specs.Quorums.{faults-few, degree-few}
 use Rattle.codeword.specs.Codeword.{meets}
 use Rattle.codeword.specs.Apart.{meets-refl, met, apart}
 use Rattle.dispersal.specs.Dispersal.{agrees, firstQuorum, firstReport, reported, both, secondQuorum, secondReport, readReports}
 use Rattle.dispersal.specs.Laws.{agrees-meets, report-read}
 use Rattle.dispersal.specs.Run.{Run}
-
--- column i is sound and held the record r
-abbrev pub holds : (ℕ → Bool) → (ℕ → List ℕ) → List ℕ → ℕ → Bool
-holds H held r i = H i && same (held i) r
 
 module _ {n m : ℕ} {H : ℕ → Bool} {held : ℕ → List ℕ} {A R : ℕ → List Bool} {S : ℕ → ℕ → ℕ} (D : Run n m H held A R S) where
   W : Wall n H

@@ -1,7 +1,7 @@
 -- THEOREM 3.3: Protocol 3.2 is graded dispersal as Definition 3.1 has it.
 use mathlib.Core.Path.{_≡_, refl, sym}
 use mathlib.Core.Logic.{_⊎_, inl, inr}
-use mathlib.Core.Bool.{Bool, true, false, not, cond, _&&_}
+use mathlib.Core.Bool.{Bool, true, false, cond, _&&_}
 use mathlib.Core.List.{List}
 use Prim.Native.Nat.{ℕ, suc, _+_, _-_, _*_, _≤_}
 use native.Mathlib.Omega.{arith}
@@ -14,13 +14,13 @@ use Rattle.lists.specs.Entries.{same-eq, same-refl}
 use Rattle.lists.specs.Count.{mono}
 use Rattle.sizes.specs.Sizes.{faults}
 use Rattle.messages.specs.Messages.{times}
-use Rattle.messages.specs.Wall.{Sound}
+use Rattle.messages.specs.Wall.{Sound, holds}
 use Rattle.messages.specs.Quorums.{faults-few, enough}
 use Rattle.codeword.specs.Codeword.{meets}
 use Rattle.codeword.specs.Apart.{meets-refl}
 use Rattle.dispersal.specs.Dispersal.{agrees, firstQuorum, reported, both, secondQuorum, readReports, grade}
 use Rattle.dispersal.specs.Run.{Run, gradeOf, keeps, Graded}
-use Rattle.dispersal.specs.Claims.{holds, ok₁, ok₂, Camps, agreed, first-heard, second-heard, first-sent, second-sent, few-points, claim-3-4, claim-3-5, claim-3-6}
+use Rattle.dispersal.specs.Claims.{ok₁, ok₂, Camps, agreed, first-heard, second-heard, first-sent, second-sent, few-points, claim-3-4, claim-3-5, claim-3-6}
 
 -- GRADES
 

@@ -4,10 +4,10 @@ use mathlib.Core.Bool.{Bool, _&&_}
 use mathlib.Core.List.{List}
 use Prim.Native.Nat.{ℕ, suc, _≤_}
 use lib.Dec.{eqb, leb}
-use Rattle.lists.specs.Lists.{count, same}
+use Rattle.lists.specs.Lists.{count}
 use Rattle.sizes.specs.Sizes.{faults}
 use Rattle.messages.specs.Messages.{readReport, said}
-use Rattle.messages.specs.Wall.{Wall, Sound}
+use Rattle.messages.specs.Wall.{Wall, Sound, holds}
 use Rattle.codeword.specs.Codeword.{Held}
 use Rattle.dispersal.specs.Dispersal.{exchange, agreesWith, agrees, firstReport, reported, secondReport, grade}
 
@@ -28,7 +28,7 @@ gradeOf n A R S i = grade n i (agrees (A i)) (reported (R i)) (S i)
 
 -- column i is sound, held the record r and leaves with grade 1 or 2
 abbrev pub keeps : (ℕ → Bool) → (ℕ → List ℕ) → (ℕ → ℕ) → List ℕ → ℕ → Bool
-keeps H held g r i = H i && same (held i) r && leb 1 (g i)
+keeps H held g r i = holds H held r i && leb 1 (g i)
 
 -- Definition 3.1, with the grades g
 pub record Graded (n : ℕ) (H : ℕ → Bool) (held : ℕ → List ℕ) (g : ℕ → ℕ) : Type 0 where

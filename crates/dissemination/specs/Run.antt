@@ -5,10 +5,10 @@ use mathlib.Core.List.{List}
 use mathlib.Core.Option.{some}
 use Prim.Native.Nat.{ℕ, suc, _≤_, _<_}
 use lib.Dec.{T}
-use Rattle.lists.specs.Lists.{count, same}
+use Rattle.lists.specs.Lists.{count}
 use Rattle.sizes.specs.Sizes.{faults, blocks}
 use Rattle.messages.specs.Messages.{readPoint, said}
-use Rattle.messages.specs.Wall.{Wall, Sound}
+use Rattle.messages.specs.Wall.{Wall, Sound, holds}
 use Rattle.codeword.specs.Codeword.{Held}
 use Rattle.dissemination.specs.Dissemination.{points, keptPoint, recordOf}
 
@@ -23,7 +23,7 @@ pub record Run (n m : ℕ) (H : ℕ → Bool) (has : ℕ → Bool) (held : ℕ �
 
 -- column i is sound and has the input r
 abbrev pub inputs : (ℕ → Bool) → (ℕ → Bool) → (ℕ → List ℕ) → List ℕ → ℕ → Bool
-inputs H has held r i = H i && same (held i) r && has i
+inputs H has held r i = holds H held r i && has i
 
 -- Definition 3.7, output consistency: where at least t + 1 sound columns have the input r, and no sound column has another one, every sound
 -- column ends on r

@@ -20,7 +20,10 @@ use Rattle.king.specs.Phases.{sound-king, agreement, validity}
 use Rattle.dispersal.specs.Run.{keeps}
 use Rattle.dissemination.specs.Run.{inputs}
 use Rattle.agreement.specs.Rounds.{votesOne, spreads, firstVote}
-use Rattle.agreement.specs.Protocols.{Courses, state, bytes, course-graded, grade-small, votes, first-vote, phase, grade-stays, has, decides, decides-none, decides-record}
+use Rattle.agreement.specs.Courses.{Courses, state, bytes}
+use Rattle.agreement.specs.Dispersal.{course-graded, grade-small}
+use Rattle.agreement.specs.Phases.{votes, first-vote, phase, grade-stays}
+use Rattle.agreement.specs.Dissemination.{has, decides, decides-none, decides-record}
 
 pub record Decision {n m : ℕ} {H : ℕ → Bool} {held : ℕ → List ℕ} {inbox : ℕ → ℕ → List ℕ} (C : Courses n m H held inbox) : Type 0 where
   -- the wall's outcome, a record in its 32 places

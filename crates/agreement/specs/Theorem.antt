@@ -31,7 +31,9 @@ use Rattle.agreement.specs.Turns.{answer-is}
 use Rattle.agreement.specs.Course.{course}
 use Rattle.agreement.specs.Ranges.{course-fits}
 use Rattle.agreement.specs.Walk.{Ready, Walked, walk}
-use Rattle.agreement.specs.Protocols.{Courses, course-graded, lastly, last-state}
+use Rattle.agreement.specs.Courses.{Courses}
+use Rattle.agreement.specs.Dispersal.{course-graded}
+use Rattle.agreement.specs.Dissemination.{lastly, last-state}
 use Rattle.agreement.specs.Decision.{Decision, decision}
 use Rattle.agreement.specs.Endings.{shortened, ended-answers}
 

@@ -1,0 +1,142 @@
+-- The king rounds of the courses are t + 1 phases of the king rule, and leave the grades as they are.
+use mathlib.Core.Path.{_≡_, refl, sym, ap, _∙_, subst, fun-ext}
+use mathlib.Core.Bool.{Bool}
+use mathlib.Core.List.{List, [], _∷_}
+use Prim.Native.Nat.{ℕ, zero, suc, _*_, _≤_, _<_}
+use native.Mathlib.Omega.{arith}
+use Rattle.sizes.specs.Laws.{values-one}
+use Rattle.messages.specs.Messages.{toAll}
+use Rattle.messages.specs.Wall.{Delivered}
+use Rattle.king.specs.King.{phases, proposal, firm, word}
+use Rattle.king.specs.Phase.{Phase}
+use Rattle.king.specs.Calls as K
+use Rattle.agreement.specs.declared.Stage.the-variants.{Listen}
+use Rattle.agreement.specs.declared.Column.{Column}
+use Rattle.agreement.specs.declared.Kind.the-variants.{Votes, Proposals, King}
+use Rattle.agreement.specs.Parts.{withStage, withProposal, withGrade, withVote}
+use Rattle.agreement.specs.Rounds.{kindOf, message, received, kingSaid, firstVote, resettled, goesOn, hears}
+use Rattle.agreement.specs.Kinds.{rounds-of, kind-votes, kind-proposals, kind-king}
+use Rattle.agreement.specs.Course.{course}
+use Rattle.agreement.specs.Courses.{Courses, state, is, next, sent, of}
+
+-- the rounds before phase p + 1: three of dispersal and three of each phase
+abbrev pub base : ℕ → ℕ
+base p = suc (suc (suc (3 * p)))
+
+module _ {n m : ℕ} {H : ℕ → Bool} {held : ℕ → List ℕ} {inbox : ℕ → ℕ → List ℕ} (C : Courses n m H held inbox) where
+  -- the vote of column i after p phases
+  abbrev pub votes : ℕ → ℕ → ℕ
+  votes p i = state C i (base p) .vote
+
+  pub first-vote : (i : ℕ) → votes 0 i ≡ firstVote (state C i 3 .grade)
+  unfolding course kindOf hears goesOn withStage withGrade withVote
+  first-vote i = refl
+
+  module _ (p : ℕ) (h : p < phases n) where
+    r₁ : ℕ
+    r₁ = suc (base p)
+
+    r₂ : ℕ
+    r₂ = suc (suc (base p))
+
+    r₃ : ℕ
+    r₃ = suc (suc (suc (base p)))
+
+    is-votes : kindOf n r₁ ≡ Votes
+    unfolding r₁
+    is-votes = kind-votes n r₁ p h (omega arith)
+
+    is-proposals : kindOf n r₂ ≡ Proposals
+    unfolding r₂
+    is-proposals = kind-proposals n r₂ p h (omega arith)
+
+    is-king : kindOf n r₃ ≡ King (suc p)
+    unfolding r₃
+    is-king = kind-king n r₃ p h (omega arith)
+
+    -- what Protocol and king rule give, from the votes before the phase
+    abbrev proposed : ℕ → ℕ
+    proposed = K.proposalOf n (suc p) (votes p) (of C r₁) (of C r₂) (of C r₃)
+
+    abbrev settles : ℕ → ℕ
+    settles = K.settledOf n (suc p) (votes p) (of C r₁) (of C r₂) (of C r₃)
+
+    abbrev proposals : ℕ → ℕ → ℕ
+    proposals = K.proposalsOf n (suc p) (votes p) (of C r₁) (of C r₂) (of C r₃)
+
+    abbrev crowns : ℕ → ℕ
+    crowns = K.crownedOf n (suc p) (votes p) (of C r₁) (of C r₂) (of C r₃)
+
+    proposal-is : (i : ℕ) → state C i r₁ .proposal ≡ proposed i
+    unfolding r₁ hears goesOn withStage withProposal received message
+    proposal-is i =
+        let a = is C i (base p) (omega (arith, rounds-of n)) in
+        ap (λ (c : Column). c .proposal) (next C i (base p) Votes is-votes) ∙ rw (a .n-is, a .own-is)
+
+    vote-kept : (i : ℕ) → state C i r₁ .vote ≡ votes p i
+    unfolding r₁ hears goesOn withStage withProposal
+    vote-kept i = ap (λ (c : Column). c .vote) (next C i (base p) Votes is-votes)
+
+    -- the proposals that column i hears
+    heard-is : (i : ℕ) → received Proposals (withStage (Listen r₂) (state C i r₁)) (of C r₂ i) ≡ proposals i
+    unfolding r₁ withStage received message
+    heard-is i =
+        let a = is C i r₁ (omega (arith, rounds-of n)) in rw (a .n-is, a .own-is, proposal-is i)
+
+    settled-is : (i : ℕ) → state C i r₂ .vote ≡ settles i
+    unfolding r₁ r₂ hears goesOn withStage withVote resettled
+    settled-is i =
+        let a = is C i r₁ (omega (arith, rounds-of n)) in
+        ap (λ (c : Column). c .vote) (next C i r₁ Proposals is-proposals) ∙ rw (heard-is i, a .n-is, vote-kept i)
+
+    firm-is : (i : ℕ) → state C i r₂ .firm ≡ firm n (proposals i) (settles i)
+    unfolding r₁ r₂ hears goesOn withStage withVote resettled
+    firm-is i =
+        let a = is C i r₁ (omega (arith, rounds-of n)) in
+        ap (λ (c : Column). c .firm) (next C i r₁ Proposals is-proposals) ∙ rw (heard-is i, a .n-is, vote-kept i)
+
+    crowned-is : (i : ℕ) → state C i r₃ .vote ≡ crowns i
+    unfolding r₂ r₃ hears goesOn withStage withVote kingSaid message
+    crowned-is i =
+        let a = is C i r₂ (omega (arith, rounds-of n)) in
+        ap (λ (c : Column). c .vote) (next C i r₂ (King (suc p)) is-king) ∙ rw (firm-is i, settled-is i, a .own-is)
+
+    votes-sent : Delivered n H 1 (λ j. toAll n 1 (votes p j ∷ [])) (of C r₁)
+    unfolding r₁ message toAll
+    votes-sent = sent C (base p) 1 Votes (λ j i. votes p j ∷ []) (omega (arith, rounds-of n)) is-votes (values-one n m r₁ (omega arith) (omega (arith, rounds-of n))) (λ j i sj. refl)
+
+    proposals-sent : Delivered n H 1 (λ j. toAll n 1 (proposed j ∷ [])) (of C r₂)
+    unfolding r₁ r₂ message toAll
+    proposals-sent =
+        sent C r₁ 1 Proposals (λ j i. proposed j ∷ []) (omega (arith, rounds-of n)) is-proposals (values-one n m r₂ (omega arith) (omega (arith, rounds-of n)))
+        (λ j i sj. ap (λ (v : ℕ). v ∷ []) (proposal-is j))
+
+    word-sent : Delivered n H 1 (λ j. toAll n 1 (word (suc p) j (settles j) ∷ [])) (of C r₃)
+    unfolding r₂ r₃ message toAll
+    word-sent =
+        sent C r₂ 1 (King (suc p)) (λ j i. word (suc p) j (settles j) ∷ []) (omega (arith, rounds-of n)) is-king (values-one n m r₃ (omega arith) (omega (arith, rounds-of n)))
+        (λ j i sj. rw (is C j r₂ (omega (arith, rounds-of n)) .own-is, settled-is j))
+
+    -- a phase of the king rule, of the columns' votes
+    course-phase : Phase n H (suc p) (votes p) (λ i. state C i r₃ .vote)
+    course-phase = subst (Phase n H (suc p) (votes p)) (sym (fun-ext crowned-is)) (K.calls-phase n (suc p) (votes p) (of C r₁) (of C r₂) (of C r₃) H (C .wall) votes-sent proposals-sent word-sent)
+
+    -- which leaves the grade as it is
+    grade-kept : (i : ℕ) → state C i r₃ .grade ≡ state C i (base p) .grade
+    unfolding r₁ r₂ r₃ hears goesOn withStage withProposal withVote
+    grade-kept i =
+        ap (λ (c : Column). c .grade) (next C i r₂ (King (suc p)) is-king) ∙ ap (λ (c : Column). c .grade) (next C i r₁ Proposals is-proposals)
+        ∙ ap (λ (c : Column). c .grade) (next C i (base p) Votes is-votes)
+
+  later : (p : ℕ) → base (suc p) ≡ suc (suc (suc (base p)))
+  later p = omega arith
+
+  pub phase : (p : ℕ) → p < phases n → Phase n H (suc p) (votes p) (votes (suc p))
+  unfolding r₃
+  phase p h = subst (λ (q : ℕ). Phase n H (suc p) (votes p) (λ i. state C i q .vote)) (sym (later p)) (course-phase p h)
+
+  -- the grade stays through the phases
+  pub grade-stays : (i p : ℕ) → p ≤ phases n → state C i (base p) .grade ≡ state C i 3 .grade
+  unfolding r₃
+  grade-stays i zero h = refl
+  grade-stays i (suc p) h = ap (λ (q : ℕ). state C i q .grade) (later p) ∙ grade-kept p h i ∙ grade-stays i p (omega arith)

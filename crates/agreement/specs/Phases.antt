@@ -7,16 +7,15 @@ use native.Mathlib.Omega.{arith}
 use Rattle.sizes.specs.Laws.{values-one}
 use Rattle.messages.specs.Messages.{toAll}
 use Rattle.messages.specs.Wall.{Delivered}
-use Rattle.king.specs.King.{phases, proposal, firm, word}
+use Rattle.king.specs.King.{phases, firm, word, crowned}
 use Rattle.king.specs.Phase.{Phase}
 use Rattle.king.specs.Calls as K
-use Rattle.agreement.specs.declared.Stage.the-variants.{Listen}
 use Rattle.agreement.specs.declared.Column.{Column}
 use Rattle.agreement.specs.declared.Kind.the-variants.{Votes, Proposals, King}
 use Rattle.agreement.specs.Parts.{withStage, withProposal, withGrade, withVote}
 use Rattle.agreement.specs.Rounds.{kindOf, message, received, kingSaid, firstVote, resettled, goesOn, hears}
 use Rattle.agreement.specs.Kinds.{rounds-of, kind-votes, kind-proposals, kind-king}
-use Rattle.agreement.specs.Course.{course}
+use Rattle.agreement.specs.Course.{course, listening}
 use Rattle.agreement.specs.Courses.{Courses, state, is, next, sent, of}
 
 -- the rounds before phase p + 1: three of dispersal and three of each phase
@@ -78,7 +77,7 @@ module _ {n m : ℕ} {H : ℕ → Bool} {held : ℕ → List ℕ} {inbox : ℕ �
     vote-kept i = ap (λ (c : Column). c .vote) (next C i (base p) Votes is-votes)
 
     -- the proposals that column i hears
-    heard-is : (i : ℕ) → received Proposals (withStage (Listen r₂) (state C i r₁)) (of C r₂ i) ≡ proposals i
+    heard-is : (i : ℕ) → received Proposals (listening n m i (held i) (inbox i) r₁) (of C r₂ i) ≡ proposals i
     unfolding r₁ withStage received message
     heard-is i =
         let a = is C i r₁ (omega (arith, rounds-of n)) in rw (a .n-is, a .own-is, proposal-is i)
@@ -95,11 +94,17 @@ module _ {n m : ℕ} {H : ℕ → Bool} {held : ℕ → List ℕ} {inbox : ℕ �
         let a = is C i r₁ (omega (arith, rounds-of n)) in
         ap (λ (c : Column). c .firm) (next C i r₁ Proposals is-proposals) ∙ rw (heard-is i, a .n-is, vote-kept i)
 
+    -- and the king's word
+    word-is : (i : ℕ) → kingSaid (suc p) (listening n m i (held i) (inbox i) r₂) (of C r₃ i) ≡ K.kingSaid n (suc p) (votes p) (of C r₁) (of C r₂) (of C r₃) i
+    unfolding r₂ withStage kingSaid message
+    word-is i =
+        let a = is C i r₂ (omega (arith, rounds-of n)) in rw (settled-is i, a .own-is)
+
     crowned-is : (i : ℕ) → state C i r₃ .vote ≡ crowns i
-    unfolding r₂ r₃ hears goesOn withStage withVote kingSaid message
+    unfolding r₂ r₃ hears goesOn withStage withVote
     crowned-is i =
-        let a = is C i r₂ (omega (arith, rounds-of n)) in
-        ap (λ (c : Column). c .vote) (next C i r₂ (King (suc p)) is-king) ∙ rw (firm-is i, settled-is i, a .own-is)
+        ap (λ (c : Column). c .vote) (next C i r₂ (King (suc p)) is-king) ∙ ap (crowned (state C i r₂ .firm) (state C i r₂ .vote)) (word-is i)
+        ∙ rw (firm-is i, settled-is i)
 
     votes-sent : Delivered n H 1 (λ j. toAll n 1 (votes p j ∷ [])) (of C r₁)
     unfolding r₁ message toAll

@@ -3,17 +3,17 @@ use mathlib.Core.Path.{_≡_, refl, ap, _∙_}
 use mathlib.Core.Bool.{false, true≢false}
 use mathlib.Core.List.{List}
 use Prim.Native.Nat.{ℕ, _+_, zero, suc, _<_}
+use native.Mathlib.Omega.{arith}
+use Rattle.block.specs.Block.{part}
+use Rattle.sizes.specs.Sizes.{rounds}
 use Rattle.agreement.specs.declared.Stage.the-variants.{Speak, Listen}
 use Rattle.agreement.specs.declared.Column.{Column}
 use Rattle.agreement.specs.declared.Kind.{Kind}
 use Rattle.agreement.specs.declared.Kind.the-variants.{Exchange, FirstReport, SecondReport, Votes, Proposals, King, Points, KeptPoints}
+use Rattle.agreement.specs.Column.{freshColumn}
 use Rattle.agreement.specs.Parts.{withStage, withProposal, withAgreements, withReports, withGrade, withVote, withKept}
 use Rattle.agreement.specs.Rounds.{goesOn, hears, kindOf}
 use Rattle.agreement.specs.Kinds.{ends, rounds-of, goes-on}
-use native.Mathlib.Omega.{arith}
-use Rattle.block.specs.Block.{part}
-use Rattle.sizes.specs.Sizes.{rounds}
-use Rattle.agreement.specs.Column.{freshColumn}
 
 -- a column is of n columns and m bytes, has the number `own` and holds the record `bytes`
 pub record Sized (n m own : ℕ) (bytes : List ℕ) (n′ m′ own′ : ℕ) (bytes′ : List ℕ) : Type 0 where

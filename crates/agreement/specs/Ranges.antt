@@ -1,5 +1,5 @@
 -- No call leaves a state that a later one would refuse with 11.
-use mathlib.Core.Path.{_≡_, refl, _∙_}
+use mathlib.Core.Path.{_≡_, refl}
 use mathlib.Core.Bool.{Bool, true, false, not, _||_, cond}
 use mathlib.Core.List.{List}
 use mathlib.Core.Option.{Option, none, some}
@@ -7,18 +7,18 @@ use Prim.Native.Nat.{ℕ, _+_, _≤_, _<_, zero, suc}
 use native.Mathlib.Omega.{arith}
 use native.Mathlib.Decide.{decLt}
 use lib.Dec.{T, eqb, ltb, lt→ltb, ltb→lt}
-use lib.ListN.{getD, replicate, length, getD-replicate, List·getD-eq-default}
+use lib.ListN.{getD, replicate, length, getD-replicate}
 use Rattle.lists.specs.Lists.{all}
 use Rattle.lists.specs.Tests.{and-left, and-right, and-both, or-left, or-right, eq→eqb}
 use Rattle.lists.specs.Entries.{each-all}
 use Rattle.field.specs.Field.{blank}
 use Rattle.block.specs.Block.{part}
-use Rattle.block.specs.Value.{getD-part}
 use Rattle.sizes.specs.Sizes.{blocks, rounds, outside, refusal}
 use Rattle.sizes.specs.Laws.{rounds-are, not-outside}
 use Rattle.messages.specs.Messages.{readPoint, readBit}
-use Rattle.king.specs.Laws.{proposal-reads, settled-bit, crowned-bit}
+use Rattle.codeword.specs.Places.{zeros-past}
 use Rattle.king.specs.King.{firm, crowned}
+use Rattle.king.specs.Laws.{proposal-reads, settled-bit, crowned-bit}
 use Rattle.dispersal.specs.Dispersal.{agrees, reported}
 use Rattle.dispersal.specs.Laws.{agreements-past, reports-past, grade-lt}
 use Rattle.dissemination.specs.Dissemination.{recordOf}
@@ -164,8 +164,7 @@ unfolding fits numbersFit arraysFit freshColumn stageFits readBit readPoint
 fresh-fits n m own bytes e h =
     let sizes : T (eqb (refusal n m own) 0) = eq→eqb (refusal n m own) 0 e in
     let stage : T (not (outside 1 (rounds n) 1)) = round-fits n 1 (omega arith) (omega (arith, rounds-are n)) in
-    let record-fits : T (all (byteFits m (part bytes 0 32)) 32) = bytes-fit m (part bytes 0 32) (λ p l u.
-    getD-part bytes 0 32 p u ∙ List·getD-eq-default bytes 0 {n = 0 + p} (omega arith)) in
+    let record-fits : T (all (byteFits m (part bytes 0 32)) 32) = bytes-fit m (part bytes 0 32) (λ p l u. zeros-past m bytes h p l) in
     let flags : T (all (flagFits n (replicate 31 false)) 31) = flags-fit n (replicate 31 false) (λ i l u. getD-replicate 31 i false false u) in
     let points : T (all (pointFits (blocks n m) (replicate 32 blank)) 32) = points-fit (blocks n m) (replicate 32 blank) (λ k u. rw (getD-replicate 32 k blank blank u) refl) (λ k u l. getD-replicate 32 k blank blank u) in
     search conjunction

@@ -1,80 +1,47 @@
 -- THE THIRD DEMAND, proved of the definitions that the calls' contracts cite: `third-demand`.
 use mathlib.Core.Path.{_≡_, refl, sym, ap, subst, _∙_}
 use mathlib.Core.Bool.{Bool, false}
-use mathlib.Core.List.{List, [], _∷_, _++_}
+use mathlib.Core.List.{List, [], _++_}
 use mathlib.Core.Option.{Option, none, some}
-use Prim.Native.Nat.{ℕ, suc, _+_, _-_, _≤_, _<_}
+use Prim.Native.Nat.{ℕ, suc, _-_, _≤_}
 use native.Mathlib.Omega.{arith}
-use native.Mathlib.Decide.{decLt}
 use lib.Dec.{T, leb}
-use lib.ListN.{length, getD, take, List·getD-eq-default}
-use lib.Seq.{ext-getD, getD-take, length-take-le}
+use lib.ListN.{length, getD, take}
 use Rattle.lists.specs.Lists.{count, same}
 use Rattle.lists.specs.Tests.{conj, and-both}
 use Rattle.lists.specs.Entries.{same-eq, same-refl}
 use Rattle.lists.specs.Count.{mono}
 use Rattle.block.specs.Block.{part}
-use Rattle.block.specs.Value.{getD-part, length-part, below-part}
 use Rattle.sizes.specs.Sizes.{faults, rounds, values, refusal as refusalOfSizes}
 use Rattle.sizes.specs.Laws.{rounds-are, not-refused as sizes-accepted}
 use Rattle.messages.specs.Laws.{not-refused}
 use Rattle.messages.specs.Wall.{Sound, holds}
 use Rattle.messages.specs.Delivery.{delivered-as}
+use Rattle.codeword.specs.Places.{in-places, from-places}
 use Rattle.king.specs.Phases.{sound-king}
 use Rattle.dispersal.specs.Run.{Graded, keeps}
 use Rattle.agreement.specs.declared.Column.{Column}
 use Rattle.agreement.specs.Column.{fits}
 use Rattle.agreement.specs.Rounds.{outgoing, endsOn}
 use Rattle.agreement.specs.Calls.{answered, freshRefusal, fresh}
-use Rattle.agreement.specs.Claim.{Call, Item, leading, extra, after, idle, final, afterLeading, leadingCalls, turns, extrasIdle, noneRefused, wrote, made, Run, Answers, leaves, Demand}
-use Rattle.agreement.specs.Turns.{answer-is}
+use Rattle.agreement.specs.Claim.{Item, final, afterLeading, leadingCalls, turns, extrasIdle, noneRefused, wrote, made, Run, Answers, leaves, Demand}
 use Rattle.agreement.specs.Course.{course}
-use Rattle.agreement.specs.Ranges.{course-fits}
-use Rattle.agreement.specs.Walk.{Ready, Walked, walk}
 use Rattle.agreement.specs.Courses.{Courses}
 use Rattle.agreement.specs.Dispersal.{course-graded}
 use Rattle.agreement.specs.Dissemination.{lastly, last-state}
 use Rattle.agreement.specs.Decision.{Decision, decision}
 use Rattle.agreement.specs.Endings.{shortened, ended-answers}
-
--- A RECORD OF m BYTES IN 32 PLACES
-
-module _ (m : ℕ) (high : m ≤ 32) (r : List ℕ) (full : length r ≡ m) where
-  -- its m bytes are the record
-  cut : take m (part r 0 32) ≡ r
-  cut =
-      let long : length (take m (part r 0 32)) ≡ m = length-take-le m (part r 0 32) (omega (arith, length-part r 0 32)) in
-      ext-getD 0 (take m (part r 0 32)) r (long ∙ sym full) (λ p h.
-      getD-take m (part r 0 32) p 0 (omega (arith, long)) ∙ getD-part r 0 32 p (omega (arith, long)) ∙ ap (λ (k : ℕ). getD r k 0) (omega arith))
-
-  -- it is zeros past them
-  zeros : (p : ℕ) → m ≤ p → getD (part r 0 32) p 0 ≡ 0
-  zeros p h = go (decLt p 32)
-    where
-      go : Dec (p < 32) → getD (part r 0 32) p 0 ≡ 0
-      go (yes l) = getD-part r 0 32 p l ∙ List·getD-eq-default r 0 {n = 0 + p} (omega arith)
-      go (no l) = List·getD-eq-default (part r 0 32) 0 {n = p} (omega (arith, length-part r 0 32))
-
--- A LIST WHOSE LEADING CALLS ALL STAND BEFORE
-
-all-before : (before behind : List Item) → leadingCalls behind ≡ [] → leadingCalls (before ++ behind) ≡ leadingCalls before
-unfolding leadingCalls
-all-before [] behind e = e
-all-before (leading call ∷ before) behind e = ap (λ (calls : List Call). call ∷ calls) (all-before before behind e)
-all-before (extra call ∷ before) behind e = all-before before behind e
-
-extras-before : (c : Column) (before behind : List Item) → T (extrasIdle c (before ++ behind)) → T (extrasIdle c before)
-unfolding extrasIdle
-extras-before c [] behind h = tt
-extras-before c (leading call ∷ before) behind h = extras-before (after c call) before behind h
-extras-before c (extra call ∷ before) behind h =
-    let quiet : T (idle c call) = search conj in
-    let others : T (extrasIdle (after c call) (before ++ behind)) = search conj in
-    and-both (idle c call) (extrasIdle (after c call) before) quiet (extras-before (after c call) before behind others)
+use Rattle.agreement.specs.Turns.{answer-is}
+use Rattle.agreement.specs.Ranges.{course-fits}
+use Rattle.agreement.specs.Walk.{Ready, Walked, walk, all-before, extras-before}
 
 module _ {n m : ℕ} {H : ℕ → Bool} {held : ℕ → List ℕ} {lists : ℕ → List Item} {out inbox : ℕ → ℕ → List ℕ} (R : Run n m H held lists out inbox) where
+  -- column i after q rounds, and its record in 32 places
   abbrev state : ℕ → ℕ → Column
   state i q = course n m i (held i) (inbox i) q
+
+  abbrev places : ℕ → List ℕ
+  places i = part (held i) 0 32
 
   sized : (i : ℕ) → Sound n H i → refusalOfSizes n m i ≡ 0
   sized i si =
@@ -112,12 +79,7 @@ module _ {n m : ℕ} {H : ℕ → Bool} {held : ℕ → List ℕ} {lists : ℕ �
         wall = R .wall;
         bytes-low = R .bytes-low;
         bytes-high = R .bytes-high;
-        records = λ i si.
-            record {
-              size = length-part (held i) 0 32;
-              small = below-part 256 (held i) 0 32 (omega arith) (R .records i si .1);
-              past = zeros m (R .bytes-high) (held i) (R .records i si .0);
-            };
+        records = λ i si. in-places m (held i) (R .records i si .0) (R .records i si .1);
         delivered = λ q l.
             delivered-as n H (values n m (suc q)) (values n m (suc q)) (λ j. getD (wrote (made n m held j) (lists j)) (suc q - 1) []) (λ j. outgoing (state j q) (suc q)) (λ i. inbox i (suc q)) refl (λ j sj.
             ap (λ (c : Column). getD (wrote c (lists j)) (suc q - 1) []) (made-is j sj) ∙ whole j sj .wrote-at (suc q - 1) q (omega arith) l) (R .mail (suc q) (omega arith) l);
@@ -146,8 +108,8 @@ module _ {n m : ℕ} {H : ℕ → Bool} {held : ℕ → List ℕ} {lists : ℕ �
           ∙ ended
 
   -- the m bytes of sound column i, from its 32 places
-  held-is : (i : ℕ) → Sound n H i → take m (part (held i) 0 32) ≡ held i
-  held-is i si = cut m (R .bytes-high) (held i) (R .records i si .0)
+  held-is : (i : ℕ) → Sound n H i → take m (places i) ≡ held i
+  held-is i si = from-places m (R .bytes-high) (held i) (R .records i si .0)
 
   many : (o : Option (List ℕ)) → D .decided ≡ o → (r : List ℕ) → shortened m o ≡ some r → suc (faults n) ≤ count (holds H held r) n
   unfolding shortened
@@ -158,10 +120,10 @@ module _ {n m : ℕ} {H : ℕ → Bool} {held : ℕ → List ℕ} {lists : ℕ �
       omega (
         arith,
         D .many-held s e,
-        mono (holds H (λ i. part (held i) 0 32) s) (holds H held r) n (λ i l u h.
+        mono (holds H places s) (holds H held r) n (λ i l u h.
             let si : Sound n H i = (l, u, search conj) in
-            let held-it : T (same (part (held i) 0 32) s) = search conj in
-            let eq : held i ≡ r = sym (held-is i si) ∙ ap (take m) (same-eq (part (held i) 0 32) s held-it) ∙ is in
+            let held-it : T (same (places i) s) = search conj in
+            let eq : held i ≡ r = sym (held-is i si) ∙ ap (take m) (same-eq (places i) s held-it) ∙ is in
             and-both (H i) (same (held i) r) (si .2) (rw eq (same-refl r))),
       )
 
@@ -169,8 +131,8 @@ module _ {n m : ℕ} {H : ℕ → Bool} {held : ℕ → List ℕ} {lists : ℕ �
   unfolding shortened
   alike r all =
       let (k, l, sk) = sound-king (R .wall) in
-      let decided = D .all-alike (part r 0 32) (λ i si. ap (λ (s : List ℕ). part s 0 32) (all i si)) in
-      rw decided (ap {B = Option (List ℕ)} some (cut m (R .bytes-high) r (ap length (sym (all (suc k) sk)) ∙ R .records (suc k) sk .0)))
+      let decided = D .all-alike (part r 0 32) (λ i si. ap (λ (r : List ℕ). part r 0 32) (all i si)) in
+      rw decided (ap {B = Option (List ℕ)} some (from-places m (R .bytes-high) r (ap length (sym (all (suc k) sk)) ∙ R .records (suc k) sk .0)))
 
   -- the grade that a column leaves with
   leaves-is : (i : ℕ) → Sound n H i → leaves n m held lists i ≡ state i 3 .grade
@@ -180,14 +142,14 @@ module _ {n m : ℕ} {H : ℕ → Bool} {held : ℕ → List ℕ} {lists : ℕ �
   grades : Graded n H held (leaves n m held lists)
   grades =
       record {
-        validity = λ r all i si. leaves-is i si ∙ G .validity (part r 0 32) (λ j sj. ap (λ (s : List ℕ). part s 0 32) (all j sj)) i si;
+        validity = λ r all i si. leaves-is i si ∙ G .validity (part r 0 32) (λ j sj. ap (λ (r : List ℕ). part r 0 32) (all j sj)) i si;
         enough = λ c sc two.
             omega (
               arith,
               G .enough c sc (sym (leaves-is c sc) ∙ two),
-              mono (keeps H (λ i. part (held i) 0 32) (λ i. state i 3 .grade) (part (held c) 0 32)) (keeps H held (leaves n m held lists) (held c)) n (λ i l u h.
+              mono (keeps H places (λ i. state i 3 .grade) (places c)) (keeps H held (leaves n m held lists) (held c)) n (λ i l u h.
                   let si : Sound n H i = (l, u, search conj) in
-                  let held-it : T (same (part (held i) 0 32) (part (held c) 0 32)) = search conj in
+                  let held-it : T (same (places i) (places c)) = search conj in
                   let one : T (leb 1 (state i 3 .grade)) = search conj in
                   and-both (holds H held (held c) i) (leb 1 (leaves n m held lists i))
                   (and-both (H i) (same (held i) (held c)) (si .2) (rw (one-record i c si sc (same-eq _ _ held-it)) (same-refl (held c)))) (rw (leaves-is i si) one)),
@@ -195,10 +157,10 @@ module _ {n m : ℕ} {H : ℕ → Bool} {held : ℕ → List ℕ} {lists : ℕ �
         others = λ c i sc si two ne. leaves-is i si ∙ G .others c i sc si (sym (leaves-is c sc) ∙ two) (λ e. ne (one-record i c si sc e));
       }
     where
-      G : Graded n H (λ i. part (held i) 0 32) (λ i. state i 3 .grade)
+      G : Graded n H places (λ i. state i 3 .grade)
       G = course-graded courses
 
-      one-record : (i c : ℕ) → Sound n H i → Sound n H c → part (held i) 0 32 ≡ part (held c) 0 32 → held i ≡ held c
+      one-record : (i c : ℕ) → Sound n H i → Sound n H c → places i ≡ places c → held i ≡ held c
       one-record i c si sc e = sym (held-is i si) ∙ ap (take m) e ∙ held-is c sc
 
   -- THE THEOREM

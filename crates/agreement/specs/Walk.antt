@@ -1,7 +1,7 @@
 -- A list of calls comes to the course of its rounds, whatever else the list holds.
 use mathlib.Core.Path.{_≡_, refl, sym, ap, _∙_, subst}
 use mathlib.Core.Bool.{Bool, true, false}
-use mathlib.Core.List.{List, [], _∷_}
+use mathlib.Core.List.{List, [], _∷_, _++_}
 use Prim.Native.Nat.{ℕ, zero, suc, _+_, _*_, _≤_, _<_}
 use native.Mathlib.Omega.{arith}
 use lib.Dec.{T, eqb}
@@ -14,8 +14,8 @@ use Rattle.agreement.specs.Parts.{withStage}
 use Rattle.agreement.specs.Rounds.{kindOf, outgoing, hears}
 use Rattle.agreement.specs.Calls.{written}
 use Rattle.agreement.specs.Claim.{Call, Speaks, Listens, Asks, Item, leading, extra, callOf, refusalAt, after, final, afterLeading, leadingCalls, turns, idle, extrasIdle, noneRefused, wrote}
-use Rattle.agreement.specs.Turns.{extra-keeps, spoke, listened}
 use Rattle.agreement.specs.Course.{course, listening, course-is}
+use Rattle.agreement.specs.Turns.{extra-keeps, spoke, listened}
 use Rattle.agreement.specs.Ranges.{listening-fits, course-fits}
 
 -- column `own` of n with the record `bytes`, which speaks into the slices `out` and listens to `inbox`, round by round: its sizes and its slices
@@ -35,11 +35,15 @@ module _ (n m own : ℕ) (bytes : List ℕ) (inbox : ℕ → List ℕ) where
   state false q = at q
   state true q = listening n m own bytes inbox q
 
-  -- what a list of calls comes to, from a state of the course on
+  -- what a list of calls comes to, from a state of the course on, after 2q + b leading calls
   pub record Walked (b : Bool) (q : ℕ) (items : List Item) : Type 0 where
+    -- no leading call is refused
     pub none-refused : T (noneRefused (state b q) items)
+    -- the list ends where the course does
     pub ended : final (state b q) items ≡ at (rounds n)
+    -- its p-th leading call to speak wrote what is said in that round
     pub wrote-at : (p r : ℕ) → q + bit b + p ≡ r → r < rounds n → getD (wrote (state b q) items) p [] ≡ outgoing (at r) (suc r)
+    -- its next s leading calls lead to the state after r rounds
     pub led : (s r : ℕ) → 2 * q + bit b + s ≡ 2 * r → r ≤ rounds n → afterLeading s (state b q) items ≡ at r
 
   nothing-left : Walked false (rounds n) []
@@ -157,3 +161,20 @@ module _ (n m own : ℕ) (bytes : List ℕ) (inbox : ℕ → List ℕ) where
 
     pub walk : (items : List Item) → leadingCalls items ≡ turns out inbox 1 (rounds n) → T (extrasIdle (at 0) items) → Walked false 0 items
     walk items e h = walked items false 0 (rounds n) e h (omega arith)
+
+-- A LIST CUT BEHIND ITS LAST LEADING CALL: the part before meets the premises by itself
+
+pub all-before : (before behind : List Item) → leadingCalls behind ≡ [] → leadingCalls (before ++ behind) ≡ leadingCalls before
+unfolding leadingCalls
+all-before [] behind e = e
+all-before (leading call ∷ before) behind e = ap (λ (calls : List Call). call ∷ calls) (all-before before behind e)
+all-before (extra call ∷ before) behind e = all-before before behind e
+
+pub extras-before : (c : Column) (before behind : List Item) → T (extrasIdle c (before ++ behind)) → T (extrasIdle c before)
+unfolding extrasIdle
+extras-before c [] behind h = tt
+extras-before c (leading call ∷ before) behind h = extras-before (after c call) before behind h
+extras-before c (extra call ∷ before) behind h =
+    let quiet : T (idle c call) = search conj in
+    let others : T (extrasIdle (after c call) (before ++ behind)) = search conj in
+    and-both (idle c call) (extrasIdle (after c call) before) quiet (extras-before (after c call) before behind others)

@@ -8,14 +8,14 @@ use native.Mathlib.Omega.{arith}
 use lib.Dec.{T, eqb→eq, eqb-refl}
 use lib.ListN.{length, getD, List·getD-eq-default}
 use lib.Seq.{ext-getD}
-use Rattle.lists.specs.Lists.{count, all, Below}
+use Rattle.lists.specs.Lists.{count, Below}
 use Rattle.lists.specs.Tests.{eq→eqb}
 use Rattle.lists.specs.Entries.{all-each, each-all, length-listOf, getD-listOf}
 use Rattle.lists.specs.Count.{mono}
-use Rattle.block.specs.Block.{block, value, meet}
+use Rattle.field.specs.Field.{blank}
+use Rattle.block.specs.Block.{block, meet}
 use Rattle.block.specs.Value.{value-lt, getD-part, length-part, below-part}
 use Rattle.block.specs.Apart.{unique}
-use Rattle.field.specs.Field.{blank}
 use Rattle.sizes.specs.Sizes.{degree, blocks}
 use Rattle.sizes.specs.Laws.{InRange, sized}
 use Rattle.messages.specs.Messages.{said}

@@ -9,8 +9,8 @@ use Rattle.sizes.specs.Laws.{values-exchange, values-one}
 use Rattle.messages.specs.Messages.{toAll}
 use Rattle.messages.specs.Wall.{Delivered}
 use Rattle.dispersal.specs.Dispersal.{exchange, exchanges}
-use Rattle.dispersal.specs.Laws.{grade-lt}
 use Rattle.dispersal.specs.Run.{Graded}
+use Rattle.dispersal.specs.Graded.{grade-lt}
 use Rattle.dispersal.specs.Calls.{firstOf, secondOf, leavesWith, calls-graded}
 use Rattle.agreement.specs.declared.Kind.the-variants.{Exchange, FirstReport, SecondReport}
 use Rattle.agreement.specs.Column.{freshColumn}

@@ -20,7 +20,8 @@ use Rattle.codeword.specs.Places.{zeros-past}
 use Rattle.king.specs.King.{firm, crowned}
 use Rattle.king.specs.Laws.{proposal-reads, settled-bit, crowned-bit}
 use Rattle.dispersal.specs.Dispersal.{agrees, reported}
-use Rattle.dispersal.specs.Laws.{agreements-past, reports-past, grade-lt}
+use Rattle.dispersal.specs.Laws.{agreements-past, reports-past}
+use Rattle.dispersal.specs.Graded.{grade-lt}
 use Rattle.dissemination.specs.Dissemination.{recordOf}
 use Rattle.dissemination.specs.Laws.{keptPoints-read, keptPoints-past, record-past}
 use Rattle.agreement.specs.declared.Outcome.the-variants.{Nothing, Record}

@@ -3,7 +3,7 @@ use mathlib.Core.Path.{_≡_, refl, sym}
 use mathlib.Core.Logic.{_⊎_, inl, inr}
 use mathlib.Core.Bool.{Bool, true, false, cond, _&&_}
 use mathlib.Core.List.{List}
-use Prim.Native.Nat.{ℕ, suc, _+_, _-_, _*_, _≤_}
+use Prim.Native.Nat.{ℕ, suc, _+_, _-_, _*_, _≤_, _<_}
 use native.Mathlib.Omega.{arith}
 use native.Mathlib.Decide.{decLe}
 use borrow.Author.Tests.{le-leb}
@@ -47,6 +47,16 @@ module _ (n own : ℕ) (A R : ℕ → Bool) (received : ℕ → ℕ) where
       go : (q : Bool) → T (leb 1 (cond q 2 1))
       go true = tt
       go false = tt
+
+  -- there is no other
+  pub grade-lt : grade n own A R received < 3
+  unfolding grade
+  grade-lt = go (secondQuorum n own A R) (leb (2 * faults n + 1) (times (readReports received) 1 n))
+    where
+      go : (p q : Bool) → cond p (cond q 2 1) 0 < 3
+      go true true = omega arith
+      go true false = omega arith
+      go false q = omega arith
 
   is-zero : (T (secondQuorum n own A R) → ⊥) → grade n own A R received ≡ 0
   unfolding grade

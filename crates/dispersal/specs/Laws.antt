@@ -6,21 +6,21 @@ use Prim.Native.Nat.{ℕ, _+_, _-_, _*_, _≤_, _<_}
 use native.Mathlib.Omega.{arith}
 use native.Mathlib.Decide.{decLt}
 use borrow.Author.Tests.{lt-ltb, le-ltb, ne-eqb}
-use lib.Dec.{T, eqb, ltb, leb, eqb→eq}
+use lib.Dec.{T, eqb, ltb, eqb→eq}
 use lib.ListN.{length, getD, replicate, length-append, List·getD-append}
 use lib.Seq.{getD-append-add}
 use Rattle.lists.specs.Lists.{count, all, listOf}
-use Rattle.lists.specs.Tests.{conj, and-both, T-ext, either-lt, eq→eqb}
+use Rattle.lists.specs.Tests.{conj, and-both, T-ext, eq→eqb}
 use Rattle.lists.specs.Entries.{all-each, each-all, all-same, getD-listOf, listOf-same}
 use Rattle.field.specs.Field.{blank}
-use Rattle.sizes.specs.Sizes.{faults, blocks, refusal}
+use Rattle.sizes.specs.Sizes.{blocks, refusal}
 use Rattle.sizes.specs.Laws.{few-blocks}
 use Rattle.messages.specs.Messages.{readPoint, readReport, said, laid, heard, times}
 use Rattle.lists.specs.Count.{count-same}
 use Rattle.messages.specs.Laws.{point-is, same-report, said-laid, heard-same}
 use Rattle.codeword.specs.Codeword.{point, values, meetIn, meets}
 use Rattle.codeword.specs.Apart.{point-lt, length-values, said-values}
-use Rattle.dispersal.specs.Dispersal.{exchange, agreesIn, agreesWith, agreementAt, agreements, agrees, reportAt, reports, reported, both, secondQuorum, readReports, grade, exchangeRefusal, agreed}
+use Rattle.dispersal.specs.Dispersal.{exchange, agreesIn, agreesWith, agreementAt, agreements, agrees, reportAt, reports, reported, both, readReports, exchangeRefusal, agreed}
 
 -- THE MESSAGE OF THE EXCHANGE
 
@@ -212,10 +212,3 @@ agreements-past n m own bytes inbox i h l = getD-listOf (agreementAt n m own byt
 pub reports-past : (n : ℕ) (received : ℕ → ℕ) (i : ℕ) → n ≤ i → i < 31 → getD (reports n received) i false ≡ false
 unfolding reports reportAt
 reports-past n received i h l = getD-listOf (reportAt n received) 31 i false l ∙ rw (le-ltb i n h)
-
--- a grade is 0, 1 or 2
-pub grade-lt : (n own : ℕ) (A R : ℕ → Bool) (received : ℕ → ℕ) → grade n own A R received < 3
-unfolding grade
-grade-lt n own A R received =
-    either-lt (secondQuorum n own A R) (cond (leb (2 * faults n + 1) (times (readReports received) 1 n)) 2 1) 0 3
-    (either-lt (leb (2 * faults n + 1) (times (readReports received) 1 n)) 2 1 3 (omega arith) (omega arith)) (omega arith)

@@ -2,7 +2,7 @@
 use mathlib.Core.Path.{_≡_, refl, sym, ap, _∙_}
 use mathlib.Core.Bool.{Bool, true, false, cond}
 use mathlib.Core.Logic.{_⊎_, inl, inr}
-use Prim.Native.Nat.{ℕ, zero, suc, _+_, _-_, _≤_, _<_}
+use Prim.Native.Nat.{ℕ, zero, suc, _-_, _≤_, _<_}
 use native.Mathlib.Omega.{arith}
 use borrow.Author.Tests.{leb-true, le-leb, lt-leb, eq-eqb, ne-eqb}
 use lib.Dec.{T, leb, eqb, eqb→eq}
@@ -86,7 +86,7 @@ proposal-reads n votes = go (leb (n - faults n) (times (bits votes) 1 n)) (leb (
 -- a vote stays a bit
 pub settled-bit : (n : ℕ) (proposals : ℕ → ℕ) (vote : ℕ) → vote < 2 → settled n proposals vote < 2
 unfolding settled
-settled-bit n proposals vote h = chosen-lt n (faults n + 1) proposals vote 2 (omega arith) h
+settled-bit n proposals vote h = chosen-lt n _ proposals vote 2 (omega arith) h
 
 -- a king's word is its vote
 pub word-king : (king own vote : ℕ) → own ≡ king → word king own vote ≡ vote

@@ -1,6 +1,6 @@
 -- A RUN THAT MEETS THE PREMISES: document 01's worked sheet, as lists of calls. Four columns, records of one byte: columns 1 and 2 held 41,
--- column 3 held 42 (hexadecimal). Column 4 is unsound: it tells columns 1 and 2 that it held 41 as they did, sends its first report to both and its second
--- to column 1 alone, and column 3 gets nothing. Refused calls and calls for the outcome stand among the others.
+-- column 3 held 42 (hexadecimal). Column 4 is unsound: it tells columns 1 and 2 that it held 41 as they did, sends its first report to both
+-- and its second to column 1 alone, and column 3 gets nothing. Refused calls and calls for the outcome stand among the others.
 use mathlib.Core.Path.{_≡_, refl, sym, ap, _∙_}
 use mathlib.Core.Bool.{Bool, not, cond}
 use mathlib.Core.List.{List, [], _∷_, _++_, append-nil}
@@ -45,34 +45,35 @@ row z table i = getD table (i - 1) z
 
 -- WHAT THE COLUMNS SAY
 
-abbrev none : ℕ
-none = 65535
-
--- what the sound columns 1, 2 and 3 say in each round, to every column alike
+-- what the sound columns 1, 2 and 3 say, to every column alike: a line for each round, of which the first three are dispersal, then three
+-- of each king, columns 1 and 2, and the last two dissemination
 abbrev said-by : ℕ → ℕ → List ℕ
 said-by round j =
     row [] (row [] (
     ((65 ∷ 65 ∷ []) ∷ (65 ∷ 65 ∷ []) ∷ (66 ∷ 66 ∷ []) ∷ [])
-    ∷ ((1 ∷ []) ∷ (1 ∷ []) ∷ (none ∷ []) ∷ [])
-    ∷ ((1 ∷ []) ∷ (1 ∷ []) ∷ (none ∷ []) ∷ [])
+    ∷ ((1 ∷ []) ∷ (1 ∷ []) ∷ (blank ∷ []) ∷ [])
+    ∷ ((1 ∷ []) ∷ (1 ∷ []) ∷ (blank ∷ []) ∷ [])
     ∷ ((1 ∷ []) ∷ (0 ∷ []) ∷ (0 ∷ []) ∷ [])
-    ∷ ((none ∷ []) ∷ (none ∷ []) ∷ (none ∷ []) ∷ [])
-    ∷ ((1 ∷ []) ∷ (none ∷ []) ∷ (none ∷ []) ∷ [])
+    ∷ ((blank ∷ []) ∷ (blank ∷ []) ∷ (blank ∷ []) ∷ [])
+    ∷ ((1 ∷ []) ∷ (blank ∷ []) ∷ (blank ∷ []) ∷ [])
     ∷ ((1 ∷ []) ∷ (1 ∷ []) ∷ (1 ∷ []) ∷ [])
     ∷ ((1 ∷ []) ∷ (1 ∷ []) ∷ (1 ∷ []) ∷ [])
-    ∷ ((none ∷ []) ∷ (1 ∷ []) ∷ (none ∷ []) ∷ [])
-    ∷ ((65 ∷ []) ∷ (65 ∷ []) ∷ (none ∷ []) ∷ [])
+    ∷ ((blank ∷ []) ∷ (1 ∷ []) ∷ (blank ∷ []) ∷ [])
+    ∷ ((65 ∷ []) ∷ (65 ∷ []) ∷ (blank ∷ []) ∷ [])
     ∷ ((65 ∷ []) ∷ (65 ∷ []) ∷ (65 ∷ []) ∷ [])
     ∷ []
     ) round) j
 
--- what column 4 says to column i; no more than three rounds are told
+-- what column 4 says to column i; nothing to column 3, and nothing after round 3
 abbrev lie : ℕ → ℕ → List ℕ
 lie round i = row [] (row [] (((65 ∷ 65 ∷ []) ∷ (1 ∷ []) ∷ (1 ∷ []) ∷ []) ∷ ((65 ∷ 65 ∷ []) ∷ (1 ∷ []) ∷ []) ∷ []) i) round
 
--- what column i listens to: at its own place anything, here 7
+-- what column i gets from column j; at its own place anything, here sevens
+abbrev gets : ℕ → ℕ → ℕ → List ℕ
+gets round i j = cond (eqb j i) (7 ∷ 7 ∷ []) (cond (eqb j 4) (lie round i) (said-by round j))
+
 abbrev inbox : ℕ → ℕ → List ℕ
-inbox i round = rowsOf (λ j. said (cond (eqb j i) (7 ∷ 7 ∷ []) (cond (eqb j 4) (lie round i) (said-by round j)))) (values 4 1 round) 4
+inbox i round = rowsOf (λ j. said (gets round i j)) (values 4 1 round) 4
 
 -- what it hands to a call to speak: anything of the required length, here sevens
 abbrev out : ℕ → ℕ → List ℕ
@@ -80,11 +81,11 @@ out i round = listOf (λ k. 7) (4 * values 4 1 round)
 
 -- THE LISTS OF CALLS
 
--- rounds of calls, with others before each call to speak (`idle`) and before each call to listen (`busy`), and others at the end
+-- rounds of calls, with others before each call to speak, others between it and the call to listen, and others behind the last round
 unfoldable pub noisy : List Item → List Item → List Item → (ℕ → List ℕ) → (ℕ → List ℕ) → ℕ → ℕ → List Item
-noisy idle busy end outs inboxes round zero = end
-noisy idle busy end outs inboxes round (suc left) =
-    idle ++ (leading (Speaks (outs round)) ∷ busy ++ (leading (Listens (inboxes round)) ∷ noisy idle busy end outs inboxes (suc round) left))
+noisy before between behind outs inboxes round zero = behind
+noisy before between behind outs inboxes round (suc left) =
+    before ++ (leading (Speaks (outs round)) ∷ between ++ (leading (Listens (inboxes round)) ∷ noisy before between behind outs inboxes (suc round) left))
 
 -- column 1 is asked too early (9), listens and speaks out of turn (8, 7), and is asked and spoken to after the end (10); column 2 speaks
 -- and listens with slices that are too short (4); column 3 does nothing of the kind
@@ -164,7 +165,7 @@ unfolding Delivered toAll rounds faults
 delivered r l u i j k si sj ne h =
     let first : r - 1 < 11 = omega (arith, eleven) in
     let round : suc (r - 1) ≡ r = omega arith in
-    inRow-rowsOf (λ j. said (cond (eqb j i) (7 ∷ 7 ∷ []) (cond (eqb j 4) (lie r i) (said-by r j)))) (values 4 1 r) 4 j k blank (sj .0) (sj .1) h
+    inRow-rowsOf (λ j. said (gets r i j)) (values 4 1 r) 4 j k blank (sj .0) (sj .1) h
     ∙ rw (ne-eqb j i ne, is-false (eqb j 4) (λ t. T-not (eqb j 4) (sj .2) t))
     (sym (ap (λ (s : List ℕ). inRow (values 4 1 r) s i k blank) (ap (λ (s : List (List ℕ)). getD s (r - 1) []) (plays j sj .wrote-slices) ∙ getD-listOf (slice j) 11 (r - 1) [] first ∙ ap (λ (r : ℕ). toAll 4 (values 4 1 r) (said-by r j)) round)
     ∙ inRow-rowsOf (λ i. said (said-by r j)) (values 4 1 r) 4 i k blank (si .0) (si .1) h))
@@ -182,7 +183,7 @@ run =
       records = each (λ i. (length (held i) ≡ 1) × Below 256 (held i)) (refl, small 65 (omega arith)) (refl, small 65 (omega arith)) (refl, small 66 (omega arith));
       in-turn = λ i si. plays i si .in-turn;
       out-length = λ i r si l u. length-listOf (λ k. 7) (4 * values 4 1 r);
-      inbox-length = λ i r si l u. length-rowsOf (λ j. said (cond (eqb j i) (7 ∷ 7 ∷ []) (cond (eqb j 4) (lie r i) (said-by r j)))) (values 4 1 r) 4;
+      inbox-length = λ i r si l u. length-rowsOf (λ j. said (gets r i j)) (values 4 1 r) 4;
       extras = λ i si. plays i si .extras;
       mail = delivered;
     }

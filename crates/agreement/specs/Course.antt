@@ -16,14 +16,14 @@ use Rattle.agreement.specs.Rounds.{goesOn, hears, kindOf}
 use Rattle.agreement.specs.Kinds.{ends, rounds-of, goes-on}
 
 -- a column is of n columns and m bytes, has the number `own` and holds the record `bytes`
-pub record Sized (n m own : ℕ) (bytes : List ℕ) (n′ m′ own′ : ℕ) (bytes′ : List ℕ) : Type 0 where
+pub record Fixed (n m own : ℕ) (bytes : List ℕ) (n′ m′ own′ : ℕ) (bytes′ : List ℕ) : Type 0 where
   pub n-is : n′ ≡ n
   pub m-is : m′ ≡ m
   pub own-is : own′ ≡ own
   pub bytes-is : bytes′ ≡ bytes
 
 abbrev pub Is : ℕ → ℕ → ℕ → List ℕ → Column → Type 0
-Is n m own bytes c = Sized n m own bytes (c .n) (c .m) (c .own) (c .bytes)
+Is n m own bytes c = Fixed n m own bytes (c .n) (c .m) (c .own) (c .bytes)
 
 -- listening in a round that does not end the run
 pub hears-is : {n m own : ℕ} {bytes : List ℕ} (kind : Kind) (round : ℕ) (c : Column) (inbox : List ℕ) → ends kind ≡ false → Is n m own bytes c

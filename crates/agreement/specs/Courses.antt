@@ -39,10 +39,10 @@ module _ {n m : ℕ} {H : ℕ → Bool} {held : ℕ → List ℕ} {inbox : ℕ �
   state i q = course n m i (held i) (inbox i) q
 
   -- the record in its 32 places
-  abbrev pub bytes : ℕ → List ℕ
-  bytes i = part (held i) 0 32
+  abbrev pub places : ℕ → List ℕ
+  places i = part (held i) 0 32
 
-  pub is : (i q : ℕ) → q < rounds n → Is n m i (bytes i) (state i q)
+  pub is : (i q : ℕ) → q < rounds n → Is n m i (places i) (state i q)
   is i q l = course-is n m i (held i) (inbox i) q l .0
 
   -- a round of a known kind

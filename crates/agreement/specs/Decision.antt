@@ -20,7 +20,7 @@ use Rattle.king.specs.Phases.{sound-king, agreement, validity}
 use Rattle.dispersal.specs.Run.{keeps}
 use Rattle.dissemination.specs.Run.{inputs}
 use Rattle.agreement.specs.Rounds.{votesOne, spreads, firstVote}
-use Rattle.agreement.specs.Courses.{Courses, state, bytes}
+use Rattle.agreement.specs.Courses.{Courses, state, places}
 use Rattle.agreement.specs.Dispersal.{course-graded, grade-small}
 use Rattle.agreement.specs.Phases.{votes, first-vote, phase, grade-stays}
 use Rattle.agreement.specs.Dissemination.{has, decides, decides-none, decides-record}
@@ -29,8 +29,8 @@ pub record Decision {n m : ℕ} {H : ℕ → Bool} {held : ℕ → List ℕ} {in
   -- the wall's outcome, a record in its 32 places
   pub decided : Option (List ℕ)
   pub same-outcome : (i : ℕ) → Sound n H i → decides C i ≡ decided
-  pub many-held : (r : List ℕ) → decided ≡ some r → suc (faults n) ≤ count (holds H (bytes C) r) n
-  pub all-alike : (r : List ℕ) → ((i : ℕ) → Sound n H i → bytes C i ≡ r) → decided ≡ some r
+  pub many-held : (r : List ℕ) → decided ≡ some r → suc (faults n) ≤ count (holds H (places C) r) n
+  pub all-alike : (r : List ℕ) → ((i : ℕ) → Sound n H i → places C i ≡ r) → decided ≡ some r
 
 -- "The vote starts as 1 exactly at grade 2"
 vote-zero : (g : ℕ) → g < 3 → (g ≡ 2 → ⊥) → firstVote g ≡ 0
@@ -75,42 +75,42 @@ module _ {n m : ℕ} {H : ℕ → Bool} {held : ℕ → List ℕ} {inbox : ℕ �
     unfolding spreads votesOne
     has-is i si = rw (ones i si, grade-stays C i (phases n) (omega arith))
 
-    one-record : (j : ℕ) → Sound n H j → T (has C j) → bytes C j ≡ bytes C c
+    one-record : (j : ℕ) → Sound n H j → T (has C j) → places C j ≡ places C c
     one-record j sj h =
-        same-eq (bytes C j) (bytes C c) (by-contra (same (bytes C j) (bytes C c)) (λ no.
+        same-eq (places C j) (places C c) (by-contra (same (places C j) (places C c)) (λ no.
         omega (
           arith,
           leb→le 1 (g j) (rw (has-is j sj) at h),
-          course-graded C .others c j sc sj two (λ e. no (rw e (same-refl (bytes C c)))),
+          course-graded C .others c j sc sj two (λ e. no (rw e (same-refl (places C c)))),
         )))
 
-    many-inputs : suc (faults n) ≤ count (inputs H (has C) (bytes C) (bytes C c)) n
+    many-inputs : suc (faults n) ≤ count (inputs H (has C) (places C) (places C c)) n
     many-inputs =
         omega (
           arith,
           course-graded C .enough c sc two,
-          mono (keeps H (bytes C) g (bytes C c)) (inputs H (has C) (bytes C) (bytes C c)) n (λ i l u h.
+          mono (keeps H (places C) g (places C c)) (inputs H (has C) (places C) (places C c)) n (λ i l u h.
               let si : Sound n H i = (l, u, search conj) in
               let one : T (leb 1 (g i)) = search conj in
-              let held-it : T (same (bytes C i) (bytes C c)) = search conj in
-              and-both (holds H (bytes C) (bytes C c) i) (has C i) (and-both (H i) (same (bytes C i) (bytes C c)) (si .2) held-it) (rw (has-is i si) one)),
+              let held-it : T (same (places C i) (places C c)) = search conj in
+              and-both (holds H (places C) (places C c) i) (has C i) (and-both (H i) (same (places C i) (places C c)) (si .2) held-it) (rw (has-is i si) one)),
         )
 
-    holders : suc (faults n) ≤ count (holds H (bytes C) (bytes C c)) n
+    holders : suc (faults n) ≤ count (holds H (places C) (places C c)) n
     holders =
         omega (
           arith,
           many-inputs,
-          mono (inputs H (has C) (bytes C) (bytes C c)) (holds H (bytes C) (bytes C c)) n (λ i l u h. and-left (holds H (bytes C) (bytes C c) i) (has C i) h),
+          mono (inputs H (has C) (places C) (places C c)) (holds H (places C) (places C c)) n (λ i l u h. and-left (holds H (places C) (places C c) i) (has C i) h),
         )
 
     on-record : Decision C
     on-record =
         record {
-          decided = some (bytes C c);
-          same-outcome = decides-record C ones (bytes C c) (C .records c sc) many-inputs one-record;
+          decided = some (places C c);
+          same-outcome = decides-record C ones (places C c) (C .records c sc) many-inputs one-record;
           many-held = λ r e.
-              let is : bytes C c ≡ r = cc in subst (λ (r : List ℕ). suc (faults n) ≤ count (holds H (bytes C) r) n) is holders;
+              let is : places C c ≡ r = cc in subst (λ (r : List ℕ). suc (faults n) ≤ count (holds H (places C) r) n) is holders;
           all-alike = λ r all. ap {B = Option (List ℕ)} some (all c sc);
         }
 

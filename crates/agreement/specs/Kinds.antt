@@ -20,12 +20,16 @@ unfolding phases
 rounds-of n = omega (arith, rounds-are n)
 
 module _ (n round : ℕ) where
+  -- past the third round
+  past-three : 4 ≤ round → (kind : Kind) → cond (eqb round 1) Exchange (cond (eqb round 2) FirstReport (cond (eqb round 3) SecondReport kind)) ≡ kind
+  past-three h kind = simp (ne-eqb round 1 (omega arith), ne-eqb round 2 (omega arith), ne-eqb round 3 (omega arith))
+
   -- the 3(t + 1) rounds from the fourth on are the king's
   in-phase : (q : ℕ) → q < 3 * phases n → round ≡ q + 4 → kindOf n round ≡ kingRound q
   unfolding kindOf laterRound
   in-phase q h e =
       let z : round - 4 ≡ q = omega arith in
-      simp (ne-eqb round 1 (omega arith), ne-eqb round 2 (omega arith), ne-eqb round 3 (omega arith), z, lt-ltb q (3 * phases n) h)
+      past-three (omega arith) _ ∙ simp (z, lt-ltb q (3 * phases n) h)
 
   -- phase p + 1, of king p + 1
   module _ (p : ℕ) (h : p < phases n) where
@@ -52,13 +56,13 @@ module _ (n round : ℕ) where
   unfolding kindOf laterRound
   kind-points e =
       let z : round - 4 ≡ 3 * phases n = omega arith in
-      simp (ne-eqb round 1 (omega arith), ne-eqb round 2 (omega arith), ne-eqb round 3 (omega arith), z, le-ltb (3 * phases n) (3 * phases n) (omega arith), eq-eqb (3 * phases n) (3 * phases n) refl)
+      past-three (omega arith) _ ∙ simp (z, le-ltb (3 * phases n) (3 * phases n) (omega arith), eq-eqb (3 * phases n) (3 * phases n) refl)
 
   pub kind-kept : round ≡ 3 * phases n + 5 → kindOf n round ≡ KeptPoints
   unfolding kindOf laterRound
   kind-kept e =
       let z : round - 4 ≡ 3 * phases n + 1 = omega arith in
-      simp (ne-eqb round 1 (omega arith), ne-eqb round 2 (omega arith), ne-eqb round 3 (omega arith), z, le-ltb (3 * phases n + 1) (3 * phases n) (omega arith), ne-eqb (3 * phases n + 1) (3 * phases n) (omega arith))
+      past-three (omega arith) _ ∙ simp (z, le-ltb (3 * phases n + 1) (3 * phases n) (omega arith), ne-eqb (3 * phases n + 1) (3 * phases n) (omega arith))
 
 -- a round of the kind ends the run
 unfoldable pub ends : Kind → Bool

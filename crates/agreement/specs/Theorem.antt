@@ -26,7 +26,7 @@ use Rattle.agreement.specs.Rounds.{outgoing, endsOn}
 use Rattle.agreement.specs.Calls.{answered, freshRefusal, fresh}
 use Rattle.agreement.specs.Claim.{Item, final, afterLeading, leadingCalls, turns, extrasIdle, noneRefused, wrote, made, Run, Answers, leaves, Demand}
 use Rattle.agreement.specs.Course.{course}
-use Rattle.agreement.specs.Courses.{Courses}
+use Rattle.agreement.specs.Courses.{Courses, places}
 use Rattle.agreement.specs.Dispersal.{course-graded}
 use Rattle.agreement.specs.Dissemination.{lastly, last-state}
 use Rattle.agreement.specs.Decision.{Decision, decision}
@@ -36,12 +36,9 @@ use Rattle.agreement.specs.Ranges.{course-fits}
 use Rattle.agreement.specs.Walk.{Ready, Walked, walk, all-before, extras-before}
 
 module _ {n m : ℕ} {H : ℕ → Bool} {held : ℕ → List ℕ} {lists : ℕ → List Item} {out inbox : ℕ → ℕ → List ℕ} (R : Run n m H held lists out inbox) where
-  -- column i after q rounds, and its record in 32 places
+  -- column i after q rounds
   abbrev state : ℕ → ℕ → Column
   state i q = course n m i (held i) (inbox i) q
-
-  abbrev places : ℕ → List ℕ
-  places i = part (held i) 0 32
 
   sized : (i : ℕ) → Sound n H i → refusalOfSizes n m i ≡ 0
   sized i si =
@@ -108,7 +105,7 @@ module _ {n m : ℕ} {H : ℕ → Bool} {held : ℕ → List ℕ} {lists : ℕ �
           ∙ ended
 
   -- the m bytes of sound column i, from its 32 places
-  held-is : (i : ℕ) → Sound n H i → take m (places i) ≡ held i
+  held-is : (i : ℕ) → Sound n H i → take m (places courses i) ≡ held i
   held-is i si = from-places m (R .bytes-high) (held i) (R .records i si .0)
 
   many : (o : Option (List ℕ)) → D .decided ≡ o → (r : List ℕ) → shortened m o ≡ some r → suc (faults n) ≤ count (holds H held r) n
@@ -120,10 +117,10 @@ module _ {n m : ℕ} {H : ℕ → Bool} {held : ℕ → List ℕ} {lists : ℕ �
       omega (
         arith,
         D .many-held s e,
-        mono (holds H places s) (holds H held r) n (λ i l u h.
+        mono (holds H (places courses) s) (holds H held r) n (λ i l u h.
             let si : Sound n H i = (l, u, search conj) in
-            let held-it : T (same (places i) s) = search conj in
-            let eq : held i ≡ r = sym (held-is i si) ∙ ap (take m) (same-eq (places i) s held-it) ∙ is in
+            let held-it : T (same (places courses i) s) = search conj in
+            let eq : held i ≡ r = sym (held-is i si) ∙ ap (take m) (same-eq (places courses i) s held-it) ∙ is in
             and-both (H i) (same (held i) r) (si .2) (rw eq (same-refl r))),
       )
 
@@ -147,9 +144,9 @@ module _ {n m : ℕ} {H : ℕ → Bool} {held : ℕ → List ℕ} {lists : ℕ �
             omega (
               arith,
               G .enough c sc (sym (leaves-is c sc) ∙ two),
-              mono (keeps H places (λ i. state i 3 .grade) (places c)) (keeps H held (leaves n m held lists) (held c)) n (λ i l u h.
+              mono (keeps H (places courses) (λ i. state i 3 .grade) (places courses c)) (keeps H held (leaves n m held lists) (held c)) n (λ i l u h.
                   let si : Sound n H i = (l, u, search conj) in
-                  let held-it : T (same (places i) (places c)) = search conj in
+                  let held-it : T (same (places courses i) (places courses c)) = search conj in
                   let one : T (leb 1 (state i 3 .grade)) = search conj in
                   and-both (holds H held (held c) i) (leb 1 (leaves n m held lists i))
                   (and-both (H i) (same (held i) (held c)) (si .2) (rw (one-record i c si sc (same-eq _ _ held-it)) (same-refl (held c)))) (rw (leaves-is i si) one)),
@@ -157,10 +154,10 @@ module _ {n m : ℕ} {H : ℕ → Bool} {held : ℕ → List ℕ} {lists : ℕ �
         others = λ c i sc si two ne. leaves-is i si ∙ G .others c i sc si (sym (leaves-is c sc) ∙ two) (λ e. ne (one-record i c si sc e));
       }
     where
-      G : Graded n H places (λ i. state i 3 .grade)
+      G : Graded n H (places courses) (λ i. state i 3 .grade)
       G = course-graded courses
 
-      one-record : (i c : ℕ) → Sound n H i → Sound n H c → places i ≡ places c → held i ≡ held c
+      one-record : (i c : ℕ) → Sound n H i → Sound n H c → places courses i ≡ places courses c → held i ≡ held c
       one-record i c si sc e = sym (held-is i si) ∙ ap (take m) e ∙ held-is c sc
 
   -- THE THEOREM

@@ -5,11 +5,10 @@ use mathlib.Core.List.{List}
 use mathlib.Core.Option.{Option, none, some}
 use Prim.Native.Nat.{ℕ, _+_, _≤_, _<_, zero, suc}
 use native.Mathlib.Omega.{arith}
-use native.Mathlib.Decide.{decLt}
 use lib.Dec.{T, eqb, ltb, lt→ltb, ltb→lt}
 use lib.ListN.{getD, replicate, length, getD-replicate}
 use Rattle.lists.specs.Lists.{all}
-use Rattle.lists.specs.Tests.{and-left, and-right, and-both, or-left, or-right, eq→eqb}
+use Rattle.lists.specs.Tests.{and-left, and-right, and-both, or-past, eq→eqb}
 use Rattle.lists.specs.Entries.{each-all}
 use Rattle.field.specs.Field.{blank}
 use Rattle.block.specs.Block.{part}
@@ -82,20 +81,12 @@ module _ (c : Column) (h : T (fits c)) where
 -- flags that are not set past n
 flags-fit : (n : ℕ) (flags : List Bool) → ((i : ℕ) → n ≤ i → i < 31 → getD flags i false ≡ false) → T (all (flagFits n flags) 31)
 unfolding flagFits
-flags-fit n flags h = each-all (flagFits n flags) 31 (λ i l. go i l (decLt i n))
-  where
-    go : (i : ℕ) → i < 31 → Dec (i < n) → T (ltb i n || not (getD flags i false))
-    go i l (yes a) = or-left (ltb i n) (not (getD flags i false)) (lt→ltb i n a)
-    go i l (no a) = or-right (ltb i n) (not (getD flags i false)) (rw (h i (omega arith) l) tt)
+flags-fit n flags h = each-all (flagFits n flags) 31 (λ i l. or-past i n (not (getD flags i false)) (λ u. rw (h i u l) tt))
 
 -- bytes that are 0 past m
 bytes-fit : (m : ℕ) (bytes : List ℕ) → ((p : ℕ) → m ≤ p → p < 32 → getD bytes p 0 ≡ 0) → T (all (byteFits m bytes) 32)
 unfolding byteFits
-bytes-fit m bytes h = each-all (byteFits m bytes) 32 (λ p l. go p l (decLt p m))
-  where
-    go : (p : ℕ) → p < 32 → Dec (p < m) → T (ltb p m || eqb (getD bytes p 0) 0)
-    go p l (yes a) = or-left (ltb p m) (eqb (getD bytes p 0) 0) (lt→ltb p m a)
-    go p l (no a) = or-right (ltb p m) (eqb (getD bytes p 0) 0) (eq→eqb (getD bytes p 0) 0 (h p (omega arith) l))
+bytes-fit m bytes h = each-all (byteFits m bytes) 32 (λ p l. or-past p m (eqb (getD bytes p 0) 0) (λ u. eq→eqb (getD bytes p 0) 0 (h p u l)))
 
 -- points that read as themselves and are blank past the blocks
 points-fit : (b : ℕ) (kept : List ℕ) → ((k : ℕ) → k < 32 → readPoint (getD kept k blank) ≡ getD kept k blank)
@@ -104,11 +95,8 @@ unfolding pointFits
 points-fit b kept f h =
     each-all (pointFits b kept) 32 (λ k l.
     and-both (eqb (readPoint (getD kept k blank)) (getD kept k blank)) (ltb k b || eqb (getD kept k blank) blank)
-    (eq→eqb (readPoint (getD kept k blank)) (getD kept k blank) (f k l)) (go k l (decLt k b)))
-  where
-    go : (k : ℕ) → k < 32 → Dec (k < b) → T (ltb k b || eqb (getD kept k blank) blank)
-    go k l (yes a) = or-left (ltb k b) (eqb (getD kept k blank) blank) (lt→ltb k b a)
-    go k l (no a) = or-right (ltb k b) (eqb (getD kept k blank) blank) (eq→eqb (getD kept k blank) blank (h k l (omega arith)))
+    (eq→eqb (readPoint (getD kept k blank)) (getD kept k blank) (f k l))
+    (or-past k b (eqb (getD kept k blank) blank) (λ u. eq→eqb (getD kept k blank) blank (h k l u))))
 
 -- the vote that a grade gives
 first-fits : (g : ℕ) → g < 3 → T (ltb (firstVote g) 2)

@@ -12,7 +12,7 @@ use lib.Dec.{T, eqb, ltb, leb→le, le→leb, lt→ltb}
 use lib.ListN.{getD}
 use lib.Seq.{ext-getD}
 use Rattle.lists.specs.Lists.{count, all, Below, listOf}
-use Rattle.lists.specs.Tests.{conj, and-both, or-left, or-right, is-true, eq→eqb}
+use Rattle.lists.specs.Tests.{conj, and-both, or-past, is-true, eq→eqb}
 use Rattle.lists.specs.Entries.{each-all, length-listOf, getD-listOf}
 use Rattle.lists.specs.Count.{mono}
 use Rattle.field.specs.Field.{blank}
@@ -44,14 +44,10 @@ module _ (n m : ℕ) (r : List ℕ) (received : ℕ → ℕ → ℕ) (range : In
   byte-good : (k c : ℕ) → k < blocks n m → c < degree n + 1 → T (isByte n m (blockOf n (received k)) k c)
   unfolding isByte
   byte-good k c h l = rw (byte-is k c h l)
-      (and-both (ltb (getD r p 0) 256) (ltb p m || eqb (getD r p 0) 0) (lt→ltb (getD r p 0) 256 (held .small p)) (filled (decLt p m)))
+      (and-both (ltb (getD r p 0) 256) (ltb p m || eqb (getD r p 0) 0) (lt→ltb (getD r p 0) 256 (held .small p)) (or-past p m (eqb (getD r p 0) 0) (λ u. eq→eqb (getD r p 0) 0 (held .past p u))))
     where
       p : ℕ
       p = k * (degree n + 1) + c
-
-      filled : Dec (p < m) → T (ltb p m || eqb (getD r p 0) 0)
-      filled (yes q) = or-left (ltb p m) (eqb (getD r p 0) 0) (lt→ltb p m q)
-      filled (no q) = or-right (ltb p m) (eqb (getD r p 0) 0) (eq→eqb (getD r p 0) 0 (held .past p (omega arith)))
 
   block-good : (k : ℕ) → k < blocks n m → T (isBlock n m received k)
   unfolding isBlock there

@@ -1,8 +1,10 @@
 -- What a test, a Bool, says: `T b` is that it passes.
 use mathlib.Core.Path.{_≡_, refl}
 use mathlib.Core.Bool.{Bool, true, false, not, _&&_, _||_, cond}
-use Prim.Native.Nat.{ℕ, _<_}
-use lib.Dec.{T, eqb, eqb-refl}
+use Prim.Native.Nat.{ℕ, _≤_, _<_}
+use native.Mathlib.Omega.{arith}
+use native.Mathlib.Decide.{decLt}
+use lib.Dec.{T, eqb, ltb, eqb-refl, lt→ltb}
 
 abbrev pub imp : Bool → Bool → Bool
 imp true b = b
@@ -37,6 +39,14 @@ or-left false b t = absurd t
 pub or-right : (a b : Bool) → T b → T (a || b)
 or-right true b t = tt
 or-right false b t = t
+
+-- below n, or else what holds from n on
+pub or-past : (i n : ℕ) (b : Bool) → (n ≤ i → T b) → T (ltb i n || b)
+or-past i n b h = go (decLt i n)
+  where
+    go : Dec (i < n) → T (ltb i n || b)
+    go (yes l) = or-left (ltb i n) b (lt→ltb i n l)
+    go (no l) = or-right (ltb i n) b (h (omega arith))
 
 pub not-not : (b : Bool) → T (not (not b)) → T b
 not-not true t = tt

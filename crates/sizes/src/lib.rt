@@ -3,7 +3,8 @@
 ghost use mathlib.Core.Path.{_≡_};
 ghost use Rattle.sizes.specs.Sizes.{faults as faultsOf, degree as degreeOf, blocks as blocksOf, rounds as roundsOf, values as valuesOf, line as lineOf, outside as outsideOf, refusal as refusalOf};
 
-fn outside(low: u8, high: u8, x: u8) -> bool
+// Whether x is outside low to high.
+pub fn outside(low: usize, high: usize, x: usize) -> bool
     ensures { λ r. ⌜ r ≡ outsideOf low high x ⌝ }
 {
     if x < low {
@@ -16,13 +17,13 @@ fn outside(low: u8, high: u8, x: u8) -> bool
 pub fn refusal(n: u8, m: u8, number: u8) -> u8
     ensures { λ r. ⌜ r ≡ refusalOf n m number ⌝ }
 {
-    if outside(4, 31, n) {
+    if outside(4, 31, n as usize) {
         return 1;
     }
-    if outside(1, 32, m) {
+    if outside(1, 32, m as usize) {
         return 2;
     }
-    if outside(1, n, number) {
+    if outside(1, n as usize, number as usize) {
         return 3;
     }
     0

@@ -150,6 +150,12 @@ module _ (n m own : ℕ) (bytes inbox : List ℕ) (r : ℕ) (e : r ≡ exchangeR
   unfolding agreed
   agreed-done flags z f = rw (← e, z, f) refl
 
+-- what it answers where it is not refused
+pub agreed-flags : (n m own : ℕ) (bytes inbox : List ℕ) → exchangeRefusal n m own (length inbox) ≡ 0
+    → agreed n m own bytes inbox .flags ≡ agreements n m own bytes inbox
+unfolding agreed
+agreed-flags n m own bytes inbox e = rw e refl
+
 -- REPORTS
 
 -- the columns in a set and itself

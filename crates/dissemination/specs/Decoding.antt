@@ -199,3 +199,9 @@ module _ (n m own : ℕ) (speaks : Bool) (kept inbox : List ℕ) (r : ℕ) (e : 
   disseminated-some coefficients bytes found z d f b =
       let range = accepted n m own (messages-accepted _ _ _ _ (sym e ∙ z) .0) .range in
       rw (← e, z, sym (d .tells) ∙ f, b) (ap (λ (l : List ℕ). record { refusal = 0; found = true; bytes = l }) (bytes-are n m (pointsIn own (spoken speaks kept) (blocks n m) inbox) coefficients range (rw f at d)))
+
+-- what it answers where it is not refused
+pub disseminated-answer : (n m own : ℕ) (speaks : Bool) (kept inbox : List ℕ) → roundRefusal n m own (length inbox) ≡ 0
+    → disseminated n m own speaks kept inbox ≡ answerOf (recordOf n m (pointsIn own (spoken speaks kept) (blocks n m) inbox))
+unfolding disseminated
+disseminated-answer n m own speaks kept inbox e = rw e refl

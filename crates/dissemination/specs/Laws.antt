@@ -100,6 +100,12 @@ module _ (n m own : ℕ) (speaks : Bool) (bytes inbox : List ℕ) (r : ℕ) (e :
   unfolding kept
   kept-done all z f = rw (← e, z, f) refl
 
+-- what it answers where it is not refused
+pub kept-points : (n m own : ℕ) (speaks : Bool) (bytes inbox : List ℕ) → roundRefusal n m own (length inbox) ≡ 0
+    → kept n m own speaks bytes inbox .points ≡ keptPoints n m own speaks bytes inbox
+unfolding kept
+kept-points n m own speaks bytes inbox e = rw e refl
+
 -- THE RANGES OF WHAT A COLUMN KEEPS
 
 module _ (n m own : ℕ) (speaks : Bool) (bytes inbox : List ℕ) (k : ℕ) (h : k < 32) where

@@ -6,7 +6,7 @@ use Prim.Native.Nat.{ℕ, zero, suc, _+_, _-_, _*_, _/_, _≤_, _<_}
 use native.Mathlib.Nat.{eq-zero-or-pos, div-mul-le-self, div-eq-of-lt, le-div-iff-mul-le, lt-div-mul-add, div-le-of-le-mul, mul-le-mul-left}
 use native.Mathlib.Omega.{arith}
 use borrow.Author.Tests.{ltb-false, lt-ltb, le-ltb, le-leb, lt-leb, eq-eqb, ne-eqb}
-use lib.Dec.{ltb}
+use lib.Dec.{eqb, ltb, leb}
 use Rattle.lists.specs.Lists.{sum}
 use Rattle.lists.specs.Entries.{sum-more}
 use Rattle.sizes.specs.Sizes.{faults, degree, blocks, rounds, values, line, outside, refusal}
@@ -110,6 +110,18 @@ module _ (n m round : ℕ) where
   values-after h =
       simp (ne-eqb round 0 (omega arith), ne-eqb round 1 (omega arith), lt-leb (round + 2) (rounds n) (omega arith), lt-leb round (rounds n) h)
 
+-- of any round
+pub values-le : (n m round : ℕ) → values n m round ≤ 2 * m + 1
+unfolding values
+values-le n m round = go (eqb round 0) (eqb round 1) (leb (round + 2) (rounds n)) (leb round (rounds n))
+  where
+    go : (a b c d : Bool) → cond a 0 (cond b (2 * blocks n m) (cond c 1 (cond d (blocks n m) 0))) ≤ 2 * m + 1
+    go true b c d = omega arith
+    go false true c d = omega (arith, blocks-le n m)
+    go false false true d = omega arith
+    go false false false true = omega (arith, blocks-le n m)
+    go false false false false = omega arith
+
 -- the values of the exchange and of k rounds of one value
 values-first : (n m k : ℕ) → k + 3 ≤ rounds n → sum (values n m) (k + 1) ≡ 2 * blocks n m + k
 unfolding sum
@@ -141,7 +153,7 @@ pub record Accepted (n m number : ℕ) : Type 0 where
   pub number-low : 1 ≤ number
   pub number-high : number ≤ n
 
-inside : (low high x : ℕ) → outside low high x ≡ false → (low ≤ x) × (x ≤ high)
+pub inside : (low high x : ℕ) → outside low high x ≡ false → (low ≤ x) × (x ≤ high)
 unfolding outside
 inside low high x = go (ltb x low) refl
   where
@@ -179,6 +191,12 @@ not-refused n m number a =
       not-outside 1 32 m (a .range .bytes-low) (a .range .bytes-high),
       not-outside 1 n number (a .number-low) (a .number-high),
     )
+
+-- a wall that has a column has column 1
+pub first-column : (n m number : ℕ) → refusal n m number ≡ 0 → refusal n m 1 ≡ 0
+first-column n m number e =
+    let a = accepted n m number e in
+    not-refused n m 1 (record { range = a .range; number-low = omega arith; number-high = omega (arith, a .number-low, a .number-high) })
 
 -- the blocks of an accepted wall: no more than a record has places
 pub few-blocks : (n m number : ℕ) → refusal n m number ≡ 0 → blocks n m ≤ 32

@@ -1,0 +1,18 @@
+-- `words::first_report` meets its contract.
+use mathlib.Core.Path.{refl, sym, _∙_}
+use Rattle.messages.specs.Messages.{said}
+use Rattle.agreement.specs.Rounds.{message}
+use Rattle.column.specs.Ready.{word, hasOne}
+use borrow.Author.Needs.{needs}
+use Rattle.column.proofs.words.first_report.Statement.{statement}
+use Rattle.column.proofs.words.first_report.Tie as tie
+
+first-requires : tie.Need-first-requires
+first-requires c κs = search needs
+
+returns : tie.Need-returns
+unfolding word hasOne said message
+returns c = c .first .ensures
+
+pub first-report-spec : {M : Type 1} → statement M
+first-report-spec = tie.close (tie.spec first-requires returns)

@@ -1,0 +1,33 @@
+// Round 1: the exchange.
+use super::goes_on;
+use agreement::Column;
+ghost use mathlib.Core.Path.{_≡_};
+ghost use Prim.Native.Nat.{_≤_};
+ghost use lib.ListN.{length};
+ghost use Rattle.agreement.specs.declared.Kind.the-variants.{Exchange};
+ghost use Rattle.agreement.specs.Rounds.{hears};
+ghost use Rattle.column.specs.Ready.{Ready, toColumns};
+
+pub(super) fn say(column: Column, out: &mut [u16])
+    requires { ⌜ Ready Exchange column (length (now out)) ⌝ }
+    ensures { λ _. ⌜ now (out .exit) ≡ toColumns Exchange column ⌝ }
+{
+    let bytes = column.bytes;
+    dispersal::exchange::send(column.n, column.m, column.own, bytes, out);
+}
+
+pub(super) fn hear(column: Column, round: u8, inbox: &[u16]) -> Column
+    requires { ⌜ Ready Exchange column (length (now inbox)) × (round ≤ 254) ⌝ }
+    ensures { λ r. ⌜ r ≡ hears Exchange round column (now (inbox .entry)) ⌝ }
+{
+    let bytes = column.bytes;
+    let agreed = dispersal::exchange::agreements(column.n, column.m, column.own, bytes, inbox);
+    let flags = agreed.flags;
+    goes_on(
+        Column {
+            agreements: flags,
+            ..column
+        },
+        round,
+    )
+}

@@ -1,0 +1,100 @@
+// Rounds 3t + 7 and 3t + 8: dissemination, and the end.
+use super::goes_on;
+use agreement::Column;
+use agreement::Outcome;
+use agreement::Stage;
+ghost use mathlib.Core.Path.{_≡_};
+ghost use Prim.Native.Nat.{_≤_};
+ghost use lib.ListN.{length};
+ghost use Rattle.agreement.specs.declared.Kind.the-variants.{Points, KeptPoints};
+ghost use Rattle.agreement.specs.Rounds.{votesOne, spreads as spreadsOf, hears};
+ghost use Rattle.column.specs.Ready.{Ready, toColumns};
+
+fn votes_one(column: Column) -> bool
+    ensures { λ r. ⌜ r ≡ votesOne column ⌝ }
+{
+    column.vote == 1
+}
+
+// With vote 1 and grade 1 or 2 the column spreads its record.
+fn spreads(column: Column) -> bool
+    ensures { λ r. ⌜ r ≡ spreadsOf column ⌝ }
+{
+    if votes_one(column) {
+        return 1 <= column.grade;
+    }
+    false
+}
+
+pub(super) fn say_points(column: Column, out: &mut [u16])
+    requires { ⌜ Ready Points column (length (now out)) ⌝ }
+    ensures { λ _. ⌜ now (out .exit) ≡ toColumns Points column ⌝ }
+{
+    let bytes = column.bytes;
+    dissemination::points::send(column.n, column.m, spreads(column), bytes, out);
+}
+
+pub(super) fn hear_points(column: Column, round: u8, inbox: &[u16]) -> Column
+    requires { ⌜ Ready Points column (length (now inbox)) × (round ≤ 254) ⌝ }
+    ensures { λ r. ⌜ r ≡ hears Points round column (now (inbox .entry)) ⌝ }
+{
+    let bytes = column.bytes;
+    let kept = dissemination::points::kept(
+        column.n,
+        column.m,
+        column.own,
+        spreads(column),
+        bytes,
+        inbox,
+    );
+    let points = kept.points;
+    goes_on(
+        Column {
+            kept: points,
+            ..column
+        },
+        round,
+    )
+}
+
+pub(super) fn say_kept(column: Column, out: &mut [u16])
+    requires { ⌜ Ready KeptPoints column (length (now out)) ⌝ }
+    ensures { λ _. ⌜ now (out .exit) ≡ toColumns KeptPoints column ⌝ }
+{
+    let kept = column.kept;
+    dissemination::decoding::send(column.n, column.m, votes_one(column), kept, out);
+}
+
+// The end: on the record that the kept points decode to, or on none, as with vote 0.
+pub(super) fn hear_kept(column: Column, inbox: &[u16]) -> Column
+    requires { ⌜ Ready KeptPoints column (length (now inbox)) ⌝ }
+    ensures { λ r. ⌜ r ≡ hears KeptPoints 0 column (now (inbox .entry)) ⌝ }
+{
+    if !votes_one(column) {
+        return Column {
+            stage: Stage::Ended(Outcome::Nothing),
+            ..column
+        };
+    }
+    let kept = column.kept;
+    let decoded = dissemination::decoding::decode(
+        column.n,
+        column.m,
+        column.own,
+        true,
+        kept,
+        inbox,
+    );
+    if !decoded.found {
+        return Column {
+            stage: Stage::Ended(Outcome::Nothing),
+            ..column
+        };
+    }
+    let bytes = decoded.bytes;
+    Column {
+        bytes: bytes,
+        stage: Stage::Ended(Outcome::Record),
+        ..column
+    }
+}

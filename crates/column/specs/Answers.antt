@@ -21,7 +21,7 @@ use Rattle.agreement.specs.declared.Answer.the-variants.{Done, Refused}
 use Rattle.agreement.specs.declared.Answered.{Answered}
 use Rattle.agreement.specs.declared.Reply.the-variants as R
 use Rattle.agreement.specs.declared.Replied.{Replied}
-use Rattle.agreement.specs.Column.{stageFits, numbersFit, arraysFit, fits}
+use Rattle.agreement.specs.Column.{stageFits, numbersFit, fits}
 use Rattle.agreement.specs.Rounds.{kindOf, message, outgoing}
 use Rattle.agreement.specs.Calls.{answerOf, answered, roundOf, whenSpeaking, whenListening, inState, inRound, speakRefusal, listenRefusal, outcomeRefusal, ending, replyOf, shown, outcome}
 use Rattle.column.specs.Ready.{Ready, toColumns, width-is}

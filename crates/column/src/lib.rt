@@ -4,7 +4,6 @@
 mod endings;
 mod exchange;
 mod phases;
-mod refusals;
 mod reports;
 mod rounds;
 mod spreading;
@@ -60,14 +59,14 @@ fn say(column: Column, kind: Kind, out: &mut [u16])
 pub fn speak(column: Column, out: &mut [u16]) -> Answered
     ensures { λ r. ⌜ (r ≡ speakOf column (now (out .entry))) × (now (out .exit) ≡ written column (now (out .entry))) ⌝ }
 {
-    let stage = column.stage;
-    let why = refusals::in_round(column, refusals::when_speaking(stage), out.len());
+    let why = refusals::to_speak(column, out.len());
     if why != 0 {
         return Answered {
             answer: Answer::Refused(why),
             column: column,
         };
     }
+    let stage = column.stage;
     let round = refusals::round_of(stage);
     say(column, rounds::kind_of(column.n, round), out);
     Answered {
@@ -100,14 +99,14 @@ fn hear(column: Column, kind: Kind, round: u8, inbox: &[u16]) -> Column
 pub fn listen(column: Column, inbox: &[u16]) -> Answered
     ensures { λ r. ⌜ r ≡ listenOf column (now (inbox .entry)) ⌝ }
 {
-    let stage = column.stage;
-    let why = refusals::in_round(column, refusals::when_listening(stage), inbox.len());
+    let why = refusals::to_listen(column, inbox.len());
     if why != 0 {
         return Answered {
             answer: Answer::Refused(why),
             column: column,
         };
     }
+    let stage = column.stage;
     let round = refusals::round_of(stage);
     Answered {
         answer: Answer::Done,
@@ -119,8 +118,7 @@ pub fn listen(column: Column, inbox: &[u16]) -> Answered
 pub fn outcome(column: Column) -> Replied
     ensures { λ r. ⌜ r ≡ outcomeOf column ⌝ }
 {
-    let stage = column.stage;
-    let why = refusals::in_state(column, refusals::when_asked(stage));
+    let why = refusals::to_ask(column);
     if why != 0 {
         return Replied {
             reply: Reply::Refused(why),
@@ -128,6 +126,7 @@ pub fn outcome(column: Column) -> Replied
             column: column,
         };
     }
+    let stage = column.stage;
     let ended = endings::ending(stage);
     let bytes = column.bytes;
     Replied {

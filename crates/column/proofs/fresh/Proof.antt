@@ -1,8 +1,7 @@
 -- `fresh` meets its contract.
-use Rattle.column.specs.Answers.{answered-refused, answered-done}
-use mathlib.Core.Path.{refl, sym, ap, _∙_}
-use Rattle.agreement.specs.Calls.{fresh}
 use borrow.Author.Needs.{needs}
+use Rattle.agreement.specs.Calls.{fresh}
+use Rattle.column.specs.Answers.{answered-refused, answered-done}
 use Rattle.column.proofs.fresh.Statement.{statement}
 use Rattle.column.proofs.fresh.Tie as tie
 

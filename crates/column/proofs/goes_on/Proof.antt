@@ -1,8 +1,8 @@
 -- `goes_on` meets its contract.
-use mathlib.Core.Path.{refl, sym, _∙_}
+use mathlib.Core.Path.{refl}
+use borrow.Author.Needs.{needs}
 use Rattle.agreement.specs.Parts.{withStage}
 use Rattle.agreement.specs.Rounds.{goesOn}
-use borrow.Author.Needs.{needs}
 use Rattle.column.proofs.goes_on.Statement.{statement}
 use Rattle.column.proofs.goes_on.Tie as tie
 

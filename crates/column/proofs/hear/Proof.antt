@@ -1,6 +1,6 @@
 -- `hear` meets its contract.
-use Rattle.agreement.specs.Rounds.{hears}
 use borrow.Author.Needs.{needs}
+use Rattle.agreement.specs.Rounds.{hears}
 use Rattle.column.proofs.hear.Statement.{statement}
 use Rattle.column.proofs.hear.Tie as tie
 

@@ -1,14 +1,14 @@
 -- `say` meets its contract.
-use Rattle.column.specs.Ready.{hasOne}
-use mathlib.Core.List.{[], _∷_}
+use mathlib.Core.Path.{_≡_, refl}
 use mathlib.Core.Bool.{true}
+use mathlib.Core.List.{[], _∷_}
+use types.Run.{OneOf, miss}
+use denote.Enum.Declared.{tagOf}
+use borrow.Author.Needs.{needs}
 use Rattle.agreement.specs.declared.Kind.the-variants.{Exchange, FirstReport, SecondReport, Votes, Proposals, King, Points, KeptPoints}
 use Rattle.agreement.specs.declared.Kind.{Kind}
 use Rattle.agreement.proofs.Kind.{the-type}
-use denote.Enum.Declared.{tagOf}
-use types.Run.{OneOf, miss}
-use mathlib.Core.Path.{_≡_, refl, sym, ap, _∙_}
-use borrow.Author.Needs.{needs}
+use Rattle.column.specs.Ready.{hasOne}
 use Rattle.column.proofs.say.Statement.{statement}
 use Rattle.column.proofs.say.Tie as tie
 

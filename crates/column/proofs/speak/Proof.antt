@@ -1,25 +1,19 @@
 -- `speak` meets its contract.
-use Rattle.messages.specs.Laws.{if-refused, if-done}
-use Rattle.column.specs.Answers.{answered-refused, answered-done, may-speak, outgoing-is}
-use Rattle.agreement.specs.Calls.{inRound, speakRefusal, speak, written}
-use Rattle.agreement.specs.Parts.{withStage}
-use lib.ListN.{length}
-use Prim.Native.Nat.{ℕ}
-use mathlib.Core.Path.{_≡_, refl, sym, ap, _∙_}
+use mathlib.Core.Path.{refl, sym, _∙_}
 use borrow.Author.Needs.{needs}
+use Rattle.messages.specs.Laws.{if-refused, if-done}
+use Rattle.agreement.specs.Calls.{speak, written}
+use Rattle.agreement.specs.Parts.{withStage}
+use Rattle.column.specs.Answers.{answered-refused, answered-done, may-speak, outgoing-is}
 use Rattle.column.proofs.speak.Statement.{statement}
 use Rattle.column.proofs.speak.Tie as tie
 
-when-speaking-requires : tie.Need-when-speaking-requires
-when-speaking-requires c κs = search needs
-
-in-round-requires : tie.Need-in-round-requires
-in-round-requires c κs = search needs
+to-speak-requires : tie.Need-to-speak-requires
+to-speak-requires c κs = search needs
 
 returns : tie.Need-returns
-unfolding speak speakRefusal written
-returns c = let e = (c .before .in-round .ensures ∙ ap (λ (w : ℕ). inRound (c .before .before .before .before .args .column) w (length (c .before .before .before .before .args .out .now))) (c .before .before .when-speaking .ensures)) in
-    (answered-refused _ _ e _ _ (c .if1 .taken) _ refl, sym (if-refused _ _ _ (λ z. c .if1 .taken (e ∙ z))))
+unfolding speak written
+returns c = let e = c .before .to-speak .ensures in (answered-refused _ _ e _ _ (c .if1 .taken) _ refl, sym (if-refused _ _ _ (λ z. c .if1 .taken (e ∙ z))))
 
 round-of-requires : tie.Need-round-of-requires
 round-of-requires c κs = search needs
@@ -28,26 +22,25 @@ kind-of-requires : tie.Need-kind-of-requires
 kind-of-requires c κs = search needs
 
 say-requires : tie.Need-say-requires
-unfolding speakRefusal
-say-requires c κs = rw (c .before .kind-of .ensures, c .before .before .round-of .ensures) (may-speak (c .before .before .before .before .before .before .before .args .column) (length (c .before .before .before .before .before .before .before .args .out .now)) (sym (c .before .before .before .before .in-round .ensures ∙ ap (λ (w : ℕ). inRound (c .before .before .before .before .before .before .before .args .column) w (length (c .before .before .before .before .before .before .before .args .out .now))) (c .before .before .before .before .before .when-speaking .ensures)) ∙ c .before .before .before .if1 .left) .ready)
+say-requires c κs = rw (c .before .kind-of .ensures, c .before .before .round-of .ensures) (may-speak _ _ (sym (c .before .before .before .before .to-speak .ensures) ∙ c .before .before .before .if1 .left) .ready)
 
 same-length : tie.Need-same-length
 same-length c = search needs
 
 returns-2 : tie.Need-returns-2
-unfolding speak speakRefusal written withStage
-returns-2 c = let e = (c .before .before .before .before .before .before .before .before .before .before .before .in-round .ensures ∙ ap (λ (w : ℕ). inRound (c .before .before .before .before .before .before .before .before .before .before .before .before .before .before .args .column) w (length (c .before .before .before .before .before .before .before .before .before .before .before .before .before .before .args .out .now))) (c .before .before .before .before .before .before .before .before .before .before .before .before .when-speaking .ensures)) in
+unfolding speak written withStage
+returns-2 c = let e = c .before .before .before .before .before .before .before .before .before .before .before .to-speak .ensures in
     let z = sym e ∙ c .before .before .before .before .before .before .before .before .before .before .if1 .left in
-    let t = may-speak (c .before .before .before .before .before .before .before .before .before .before .before .before .before .before .args .column) (length (c .before .before .before .before .before .before .before .before .before .before .before .before .before .before .args .out .now)) z in
-    (answered-done _ _ e _ _ (c .before .before .before .before .before .before .before .before .before .before .if1 .left) _ (rw (c .before .before .before .before .before .before .before .before .before .round-of .ensures) refl),
-    c .before .before .before .before .before .before .say .ensures ∙ rw (c .before .before .before .before .before .before .before .before .kind-of .ensures, c .before .before .before .before .before .before .before .before .before .round-of .ensures) (outgoing-is _ _ (t .low) (t .high) ∙ sym (if-done _ _ _ z)))
+    let t = may-speak _ _ z in (
+      answered-done _ _ e _ _ (c .before .before .before .before .before .before .before .before .before .before .if1 .left) _ (rw (c .before .before .before .before .before .before .before .before .before .round-of .ensures) refl),
+      c .before .before .before .before .before .before .say .ensures ∙ rw (c .before .before .before .before .before .before .before .before .kind-of .ensures, c .before .before .before .before .before .before .before .before .before .round-of .ensures) (outgoing-is _ _ (t .low) (t .high) ∙ sym (if-done _ _ _ z)),
+    )
 
 pub speak-spec : {M : Type 1} → statement M
 speak-spec =
     tie.close
     (tie.spec
-    when-speaking-requires
-    in-round-requires
+    to-speak-requires
     returns
     round-of-requires
     kind-of-requires

@@ -1,7 +1,7 @@
 -- `endings::ending` meets its contract.
-use Rattle.agreement.specs.Calls.{ending}
-use mathlib.Core.Path.{_≡_, refl, sym, ap, _∙_}
+use mathlib.Core.Path.{refl}
 use borrow.Author.Needs.{needs}
+use Rattle.agreement.specs.Calls.{ending}
 use Rattle.column.proofs.endings.ending.Statement.{statement}
 use Rattle.column.proofs.endings.ending.Tie as tie
 

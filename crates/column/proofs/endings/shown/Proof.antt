@@ -1,7 +1,7 @@
 -- `endings::shown` meets its contract.
-use Rattle.agreement.specs.Calls.{shown}
-use mathlib.Core.Path.{_≡_, refl, sym, ap, _∙_}
+use mathlib.Core.Path.{refl}
 use borrow.Author.Needs.{needs}
+use Rattle.agreement.specs.Calls.{shown}
 use Rattle.column.proofs.endings.shown.Statement.{statement}
 use Rattle.column.proofs.endings.shown.Tie as tie
 

@@ -1,10 +1,10 @@
 -- `exchange::hear` meets its contract.
-use mathlib.Core.Path.{refl, sym, ap, _∙_}
+use mathlib.Core.Path.{refl}
+use borrow.Author.Needs.{needs}
 use Rattle.dispersal.specs.Laws.{agreed-flags}
-use Rattle.column.specs.Ready.{exchange-accepted}
 use Rattle.agreement.specs.Parts.{withAgreements}
 use Rattle.agreement.specs.Rounds.{hears}
-use borrow.Author.Needs.{needs}
+use Rattle.column.specs.Ready.{exchange-accepted}
 use Rattle.column.proofs.exchange.hear.Statement.{statement}
 use Rattle.column.proofs.exchange.hear.Tie as tie
 

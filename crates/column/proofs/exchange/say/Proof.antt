@@ -1,10 +1,10 @@
 -- `exchange::say` meets its contract.
-use mathlib.Core.Path.{refl, sym, ap, _∙_}
+use mathlib.Core.Path.{_∙_}
+use borrow.Author.Needs.{needs}
+use Rattle.messages.specs.Laws.{if-done}
 use Rattle.dispersal.specs.Dispersal.{exchanges}
 use Rattle.agreement.specs.Rounds.{message}
 use Rattle.column.specs.Ready.{exchange-accepted, toColumns, width}
-use Rattle.messages.specs.Laws.{if-done}
-use borrow.Author.Needs.{needs}
 use Rattle.column.proofs.exchange.say.Statement.{statement}
 use Rattle.column.proofs.exchange.say.Tie as tie
 

@@ -1,8 +1,8 @@
 -- `phases::hear_king` meets its contract.
-use mathlib.Core.Path.{refl, sym, ap, _∙_}
+use mathlib.Core.Path.{refl}
+use borrow.Author.Needs.{needs}
 use Rattle.agreement.specs.Parts.{withVote}
 use Rattle.agreement.specs.Rounds.{hears, received}
-use borrow.Author.Needs.{needs}
 use Rattle.column.proofs.phases.hear_king.Statement.{statement}
 use Rattle.column.proofs.phases.hear_king.Tie as tie
 

@@ -1,9 +1,9 @@
 -- `phases::hear_proposals` meets its contract.
-use Rattle.column.specs.Ready.{hasOne}
-use mathlib.Core.Path.{refl, sym, ap, _∙_}
+use mathlib.Core.Path.{refl}
+use borrow.Author.Needs.{needs}
 use Rattle.agreement.specs.Parts.{withVote}
 use Rattle.agreement.specs.Rounds.{hears, received, resettled}
-use borrow.Author.Needs.{needs}
+use Rattle.column.specs.Ready.{hasOne}
 use Rattle.column.proofs.phases.hear_proposals.Statement.{statement}
 use Rattle.column.proofs.phases.hear_proposals.Tie as tie
 

@@ -1,9 +1,9 @@
 -- `phases::hear_votes` meets its contract.
-use Rattle.column.specs.Ready.{hasOne}
-use mathlib.Core.Path.{refl, sym, ap, _∙_}
+use mathlib.Core.Path.{refl}
+use borrow.Author.Needs.{needs}
 use Rattle.agreement.specs.Parts.{withProposal}
 use Rattle.agreement.specs.Rounds.{hears, received}
-use borrow.Author.Needs.{needs}
+use Rattle.column.specs.Ready.{hasOne}
 use Rattle.column.proofs.phases.hear_votes.Statement.{statement}
 use Rattle.column.proofs.phases.hear_votes.Tie as tie
 

@@ -1,9 +1,9 @@
 -- `phases::king_said` meets its contract.
-use mathlib.Core.Path.{refl, sym, ap, _∙_}
-use Rattle.column.specs.Ready.{word, hasOne}
+use mathlib.Core.Path.{refl}
+use borrow.Author.Needs.{needs}
 use Rattle.messages.specs.Messages.{said}
 use Rattle.agreement.specs.Rounds.{kingSaid, message}
-use borrow.Author.Needs.{needs}
+use Rattle.column.specs.Ready.{word, hasOne}
 use Rattle.column.proofs.phases.king_said.Statement.{statement}
 use Rattle.column.proofs.phases.king_said.Tie as tie
 

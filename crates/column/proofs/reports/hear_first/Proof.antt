@@ -1,9 +1,9 @@
 -- `reports::hear_first` meets its contract.
-use Rattle.column.specs.Ready.{hasOne}
-use mathlib.Core.Path.{refl, sym, ap, _∙_}
+use mathlib.Core.Path.{refl}
+use borrow.Author.Needs.{needs}
 use Rattle.agreement.specs.Parts.{withReports}
 use Rattle.agreement.specs.Rounds.{hears, received}
-use borrow.Author.Needs.{needs}
+use Rattle.column.specs.Ready.{hasOne}
 use Rattle.column.proofs.reports.hear_first.Statement.{statement}
 use Rattle.column.proofs.reports.hear_first.Tie as tie
 

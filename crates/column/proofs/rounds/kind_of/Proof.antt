@@ -1,11 +1,10 @@
 -- `rounds::kind_of` meets its contract.
-use Rattle.king.specs.King.{phases}
 use native.Mathlib.Omega.{arith}
-use Rattle.sizes.specs.Laws.{faults-le}
-use mathlib.Core.Path.{refl, sym, ap, _∙_}
 use borrow.Author.Tests.{eq-eqb, ne-eqb}
-use Rattle.agreement.specs.Rounds.{kindOf}
 use borrow.Author.Needs.{needs}
+use Rattle.sizes.specs.Laws.{faults-le}
+use Rattle.king.specs.King.{phases}
+use Rattle.agreement.specs.Rounds.{kindOf}
 use Rattle.column.proofs.rounds.kind_of.Statement.{statement}
 use Rattle.column.proofs.rounds.kind_of.Tie as tie
 

@@ -1,7 +1,7 @@
 -- `rounds::king_round` meets its contract.
 use borrow.Author.Tests.{eq-eqb, ne-eqb}
-use Rattle.agreement.specs.Rounds.{kingRound}
 use borrow.Author.Needs.{needs}
+use Rattle.agreement.specs.Rounds.{kingRound}
 use Rattle.column.proofs.rounds.king_round.Statement.{statement}
 use Rattle.column.proofs.rounds.king_round.Tie as tie
 

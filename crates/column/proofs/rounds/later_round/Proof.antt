@@ -1,8 +1,7 @@
 -- `rounds::later_round` meets its contract.
-use mathlib.Core.Path.{refl, sym, _∙_}
 use borrow.Author.Tests.{eq-eqb, ne-eqb, lt-ltb, le-ltb}
-use Rattle.agreement.specs.Rounds.{laterRound}
 use borrow.Author.Needs.{needs}
+use Rattle.agreement.specs.Rounds.{laterRound}
 use Rattle.column.proofs.rounds.later_round.Statement.{statement}
 use Rattle.column.proofs.rounds.later_round.Tie as tie
 

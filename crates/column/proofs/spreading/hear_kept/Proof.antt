@@ -1,11 +1,11 @@
 -- `spreading::hear_kept` meets its contract.
+use mathlib.Core.Path.{refl, sym, _∙_}
+use borrow.Author.Tests.{not-true, not-false}
+use borrow.Author.Needs.{needs}
 use Rattle.agreement.specs.declared.Kind.the-variants.{KeptPoints}
+use Rattle.agreement.specs.Parts.{withStage, withBytes}
 use Rattle.column.specs.Ready.{width, points-heard}
 use Rattle.column.specs.Endings.{ends-silent, ends-none, ends-record}
-use borrow.Author.Tests.{not-true, not-false}
-use mathlib.Core.Path.{refl, sym, ap, _∙_}
-use Rattle.agreement.specs.Parts.{withStage, withBytes}
-use borrow.Author.Needs.{needs}
 use Rattle.column.proofs.spreading.hear_kept.Statement.{statement}
 use Rattle.column.proofs.spreading.hear_kept.Tie as tie
 

@@ -1,12 +1,11 @@
 -- `spreading::hear_points` meets its contract.
-use Rattle.agreement.specs.declared.Kind.the-variants.{Points}
-use Rattle.column.specs.Ready.{width}
-use mathlib.Core.Path.{refl, sym, ap, _∙_}
+use mathlib.Core.Path.{refl}
+use borrow.Author.Needs.{needs}
 use Rattle.dissemination.specs.Laws.{kept-points}
-use Rattle.column.specs.Ready.{points-heard}
+use Rattle.agreement.specs.declared.Kind.the-variants.{Points}
 use Rattle.agreement.specs.Parts.{withKept}
 use Rattle.agreement.specs.Rounds.{hears}
-use borrow.Author.Needs.{needs}
+use Rattle.column.specs.Ready.{width, points-heard}
 use Rattle.column.proofs.spreading.hear_points.Statement.{statement}
 use Rattle.column.proofs.spreading.hear_points.Tie as tie
 

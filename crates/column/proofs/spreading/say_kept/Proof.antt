@@ -1,11 +1,11 @@
 -- `spreading::say_kept` meets its contract.
-use Rattle.agreement.specs.declared.Kind.the-variants.{KeptPoints}
-use mathlib.Core.Path.{refl, sym, ap, _∙_}
+use mathlib.Core.Path.{refl, _∙_}
+use borrow.Author.Needs.{needs}
 use Rattle.messages.specs.Messages.{toAll}
+use Rattle.messages.specs.Laws.{if-done}
+use Rattle.agreement.specs.declared.Kind.the-variants.{KeptPoints}
 use Rattle.agreement.specs.Rounds.{message}
 use Rattle.column.specs.Ready.{points-said, toColumns, width}
-use Rattle.messages.specs.Laws.{if-done}
-use borrow.Author.Needs.{needs}
 use Rattle.column.proofs.spreading.say_kept.Statement.{statement}
 use Rattle.column.proofs.spreading.say_kept.Tie as tie
 

@@ -1,11 +1,11 @@
 -- `spreading::say_points` meets its contract.
-use Rattle.agreement.specs.declared.Kind.the-variants.{Points}
-use mathlib.Core.Path.{refl, sym, ap, _∙_}
+use mathlib.Core.Path.{refl, _∙_}
+use borrow.Author.Needs.{needs}
+use Rattle.messages.specs.Laws.{if-done}
 use Rattle.dissemination.specs.Dissemination.{pointsToAll}
+use Rattle.agreement.specs.declared.Kind.the-variants.{Points}
 use Rattle.agreement.specs.Rounds.{message}
 use Rattle.column.specs.Ready.{points-said, toColumns, width}
-use Rattle.messages.specs.Laws.{if-done}
-use borrow.Author.Needs.{needs}
 use Rattle.column.proofs.spreading.say_points.Statement.{statement}
 use Rattle.column.proofs.spreading.say_points.Tie as tie
 

@@ -1,7 +1,7 @@
 -- `spreading::spreads` meets its contract.
-use mathlib.Core.Path.{refl, sym, _∙_}
-use Rattle.agreement.specs.Rounds.{spreads}
+use mathlib.Core.Path.{refl}
 use borrow.Author.Needs.{needs}
+use Rattle.agreement.specs.Rounds.{spreads}
 use Rattle.column.proofs.spreading.spreads.Statement.{statement}
 use Rattle.column.proofs.spreading.spreads.Tie as tie
 

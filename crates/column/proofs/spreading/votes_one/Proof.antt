@@ -1,5 +1,5 @@
 -- `spreading::votes_one` meets its contract.
-use mathlib.Core.Path.{refl, sym, _∙_}
+use mathlib.Core.Path.{refl}
 use Rattle.agreement.specs.Rounds.{votesOne}
 use Rattle.column.proofs.spreading.votes_one.Statement.{statement}
 use Rattle.column.proofs.spreading.votes_one.Tie as tie

@@ -1,8 +1,7 @@
 -- `start::byte` meets its contract.
-use lib.ListN.{List·getD-eq-default}
-use mathlib.Core.Path.{refl, sym, ap, _∙_}
-use mathlib.Core.Path.{refl, sym, _∙_}
+use mathlib.Core.Path.{sym}
 use borrow.Author.Needs.{needs}
+use lib.ListN.{List·getD-eq-default}
 use Rattle.column.proofs.start.byte.Statement.{statement}
 use Rattle.column.proofs.start.byte.Tie as tie
 

@@ -1,7 +1,7 @@
 -- `start::column` meets its contract.
-use mathlib.Core.Path.{refl, sym, ap, _∙_}
-use Rattle.agreement.specs.Column.{freshColumn}
+use mathlib.Core.Path.{refl}
 use borrow.Author.Needs.{needs}
+use Rattle.agreement.specs.Column.{freshColumn}
 use Rattle.column.proofs.start.column.Statement.{statement}
 use Rattle.column.proofs.start.column.Tie as tie
 

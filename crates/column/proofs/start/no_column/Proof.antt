@@ -1,6 +1,6 @@
 -- `start::no_column` meets its contract.
-use Rattle.agreement.specs.Calls.{noColumn}
 use borrow.Author.Needs.{needs}
+use Rattle.agreement.specs.Calls.{noColumn}
 use Rattle.column.proofs.start.no_column.Statement.{statement}
 use Rattle.column.proofs.start.no_column.Tie as tie
 

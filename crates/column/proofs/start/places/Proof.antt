@@ -1,10 +1,10 @@
 -- `start::places` meets its contract.
-use Rattle.block.specs.Block.{part}
+use Prim.Native.Nat.{_-_}
+use native.Mathlib.Omega.{arith}
+use lib.ListN.{getD}
 use Rattle.lists.specs.Loops.{Filled, filled-none, filled-more, filled-done}
 use Rattle.lists.specs.Lists.{listOf}
-use lib.ListN.{getD}
-use native.Mathlib.Omega.{arith}
-use Prim.Native.Nat.{_-_}
+use Rattle.block.specs.Block.{part}
 use Rattle.column.proofs.start.places.Statement.{statement}
 use Rattle.column.proofs.start.places.Tie as tie
 

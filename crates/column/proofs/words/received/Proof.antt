@@ -1,10 +1,10 @@
 -- `words::received` meets its contract.
-use Rattle.column.specs.Ready.{one-word}
-use Rattle.messages.specs.Messages.{heardOfAll}
-use Prim.Native.Nat.{ℕ}
+use mathlib.Core.Path.{sym, ap, _∙_}
 use mathlib.Core.List.{List, [], _∷_}
-use mathlib.Core.Path.{refl, sym, ap, _∙_}
+use Prim.Native.Nat.{ℕ}
 use borrow.Author.Needs.{needs}
+use Rattle.messages.specs.Messages.{heardOfAll}
+use Rattle.column.specs.Ready.{one-word}
 use Rattle.column.proofs.words.received.Statement.{statement}
 use Rattle.column.proofs.words.received.Tie as tie
 

@@ -1,8 +1,8 @@
 -- `words::say` meets its contract.
-use mathlib.Core.Path.{refl, sym, ap, _∙_}
-use Rattle.column.specs.Ready.{word-accepted, word-to-all}
-use Rattle.messages.specs.Laws.{if-done}
+use mathlib.Core.Path.{_∙_}
 use borrow.Author.Needs.{needs}
+use Rattle.messages.specs.Laws.{if-done}
+use Rattle.column.specs.Ready.{word-accepted, word-to-all}
 use Rattle.column.proofs.words.say.Statement.{statement}
 use Rattle.column.proofs.words.say.Tie as tie
 

@@ -1,9 +1,8 @@
 -- `words::second_report` meets its contract.
-use mathlib.Core.Path.{refl, sym, _∙_}
+use borrow.Author.Needs.{needs}
 use Rattle.messages.specs.Messages.{said}
 use Rattle.agreement.specs.Rounds.{message}
 use Rattle.column.specs.Ready.{word, hasOne}
-use borrow.Author.Needs.{needs}
 use Rattle.column.proofs.words.second_report.Statement.{statement}
 use Rattle.column.proofs.words.second_report.Tie as tie
 

@@ -1,17 +1,17 @@
 -- `words::word` meets its contract.
-use Rattle.field.specs.Field.{blank}
+use mathlib.Core.Path.{_≡_, refl}
 use mathlib.Core.List.{[], _∷_}
+use types.Run.{OneOf, miss}
+use denote.Enum.Declared.{tagOf}
+use borrow.Author.Needs.{needs}
+use Rattle.field.specs.Field.{blank}
+use Rattle.messages.specs.Messages.{said}
 use Rattle.agreement.specs.declared.Column.{Column}
 use Rattle.agreement.specs.declared.Kind.the-variants.{Exchange, FirstReport, SecondReport, Votes, Proposals, King, Points, KeptPoints}
 use Rattle.agreement.specs.declared.Kind.{Kind}
 use Rattle.agreement.proofs.Kind.{the-type}
-use denote.Enum.Declared.{tagOf}
-use types.Run.{OneOf, miss}
-use mathlib.Core.Path.{_≡_, refl, sym, ap, _∙_}
-use Rattle.messages.specs.Messages.{said}
 use Rattle.agreement.specs.Rounds.{message}
 use Rattle.column.specs.Ready.{word, hasOne}
-use borrow.Author.Needs.{needs}
 use Rattle.column.proofs.words.word.Statement.{statement}
 use Rattle.column.proofs.words.word.Tie as tie
 

@@ -1,0 +1,98 @@
+// The refusals of a column's calls, as document 01 numbers and orders them; 0 for none. Those of the state stand before that of a slice.
+mod ranges;
+
+use agreement::Column;
+use agreement::Stage;
+ghost use mathlib.Core.Path.{_≡_};
+ghost use Rattle.agreement.specs.Calls.{freshRefusal, roundOf, whenSpeaking, whenListening, whenAsked, inState, inRound, speakRefusal, listenRefusal, outcomeRefusal};
+
+// Of a call to make a column: 1, 2, 3 for the sizes and the own number, 4 for a record that has not m bytes.
+pub fn to_make(n: u8, m: u8, own: u8, len: usize) -> u8
+    ensures { λ r. ⌜ r ≡ freshRefusal n m own len ⌝ }
+{
+    messages::refusal(sizes::refusal(n, m, own), 1, m as u16, len)
+}
+
+// The round of a stage; 0 after the end.
+pub fn round_of(stage: Stage) -> u8
+    ensures { λ r. ⌜ r ≡ roundOf stage ⌝ }
+{
+    match stage {
+        Stage::Speak(round) => round,
+        Stage::Listen(round) => round,
+        Stage::Ended(_) => 0,
+    }
+}
+
+fn when_speaking(stage: Stage) -> u8
+    ensures { λ r. ⌜ r ≡ whenSpeaking stage ⌝ }
+{
+    match stage {
+        Stage::Speak(_) => 0,
+        Stage::Listen(_) => 7,
+        Stage::Ended(_) => 10,
+    }
+}
+
+fn when_listening(stage: Stage) -> u8
+    ensures { λ r. ⌜ r ≡ whenListening stage ⌝ }
+{
+    match stage {
+        Stage::Speak(_) => 8,
+        Stage::Listen(_) => 0,
+        Stage::Ended(_) => 10,
+    }
+}
+
+fn when_asked(stage: Stage) -> u8
+    ensures { λ r. ⌜ r ≡ whenAsked stage ⌝ }
+{
+    match stage {
+        Stage::Speak(_) => 9,
+        Stage::Listen(_) => 9,
+        Stage::Ended(_) => 0,
+    }
+}
+
+// 11 for a state out of its ranges, before the refusal that the stage gives.
+fn in_state(column: Column, why: u8) -> u8
+    ensures { λ r. ⌜ r ≡ inState column why ⌝ }
+{
+    if ranges::fits(column) {
+        return why;
+    }
+    11
+}
+
+// And 4 behind both, for a slice that is not as long as the round's messages.
+fn in_round(column: Column, why: u8, len: usize) -> u8
+    ensures { λ r. ⌜ r ≡ inRound column why len ⌝ }
+{
+    let stage = column.stage;
+    let w = sizes::values(column.n, column.m, round_of(stage));
+    messages::refusal(in_state(column, why), column.n, w as u16, len)
+}
+
+// Of a call to speak with a slice of `len` values: 11, 10, 7, then 4.
+pub fn to_speak(column: Column, len: usize) -> u8
+    ensures { λ r. ⌜ r ≡ speakRefusal column len ⌝ }
+{
+    let stage = column.stage;
+    in_round(column, when_speaking(stage), len)
+}
+
+// Of a call to listen with a slice of `len` values: 11, 10, 8, then 4.
+pub fn to_listen(column: Column, len: usize) -> u8
+    ensures { λ r. ⌜ r ≡ listenRefusal column len ⌝ }
+{
+    let stage = column.stage;
+    in_round(column, when_listening(stage), len)
+}
+
+// Of a call for the outcome: 11, then 9.
+pub fn to_ask(column: Column) -> u8
+    ensures { λ r. ⌜ r ≡ outcomeRefusal column ⌝ }
+{
+    let stage = column.stage;
+    in_state(column, when_asked(stage))
+}

@@ -1,0 +1,145 @@
+// Whether a column's state is in its ranges: document 01's refusal 11. Each part is looked at by itself.
+use agreement::Column;
+use agreement::Stage;
+use field::Field;
+ghost use mathlib.Core.Path.{_≡_};
+ghost use mathlib.Core.Bool.{not, _&&_, _||_};
+ghost use lib.Dec.{eqb, ltb};
+ghost use Rattle.lists.specs.Lists.{all};
+ghost use Rattle.field.specs.Field.{blank};
+ghost use Rattle.sizes.specs.Sizes.{rounds, outside};
+ghost use Rattle.messages.specs.Messages.{readPoint};
+ghost use Rattle.agreement.specs.Column.{stageFits, byteFits, flagFits, pointFits, numbersFit, arraysFit, fits as fitsOf};
+
+// Whether a run of n columns has the round.
+fn round_fits(n: u8, round: u8) -> bool
+    ensures { λ r. ⌜ r ≡ not (outside 1 (rounds n) round) ⌝ }
+{
+    !sizes::outside(1, sizes::rounds(n), round as usize)
+}
+
+fn stage_fits(n: u8, stage: Stage) -> bool
+    ensures { λ r. ⌜ r ≡ stageFits n stage ⌝ }
+{
+    match stage {
+        Stage::Speak(round) => round_fits(n, round),
+        Stage::Listen(round) => round_fits(n, round),
+        Stage::Ended(_) => true,
+    }
+}
+
+// The numbers of a state.
+fn numbers_fit(column: Column) -> bool
+    ensures { λ r. ⌜ r ≡ numbersFit column ⌝ }
+{
+    if sizes::refusal(column.n, column.m, column.own) != 0 {
+        return false;
+    }
+    let stage = column.stage;
+    if !stage_fits(column.n, stage) {
+        return false;
+    }
+    if 3 <= column.grade {
+        return false;
+    }
+    if 2 <= column.vote {
+        return false;
+    }
+    messages::read_bit(column.proposal) == column.proposal
+}
+
+// Whether v may stand at place p of a record of m bytes: past m only 0.
+fn byte_fits(m: u8, p: usize, v: u8) -> bool
+    ensures { λ r. ⌜ r ≡ ltb p m || eqb v 0 ⌝ }
+{
+    if p < m as usize {
+        return true;
+    }
+    v == 0
+}
+
+fn bytes_fit(m: u8, bytes: [u8; 32]) -> bool
+    ensures { λ r. ⌜ r ≡ all (byteFits m bytes) 32 ⌝ }
+{
+    for p in 0..32 {
+        if !byte_fits(m, p, bytes[p]) {
+            return false;
+        }
+    }
+    true
+}
+
+// Whether column i + 1's flag may be so: past n only false.
+fn flag_fits(n: u8, i: usize, flag: bool) -> bool
+    ensures { λ r. ⌜ r ≡ ltb i n || not flag ⌝ }
+{
+    if i < n as usize {
+        return true;
+    }
+    !flag
+}
+
+fn flags_fit(n: u8, flags: [bool; 31]) -> bool
+    ensures { λ r. ⌜ r ≡ all (flagFits n flags) 31 ⌝ }
+{
+    for i in 0..31 {
+        if !flag_fits(n, i, flags[i]) {
+            return false;
+        }
+    }
+    true
+}
+
+// Whether v may be kept of block k, of b: a point or blank, past b only blank.
+fn point_fits(b: usize, k: usize, v: u16) -> bool
+    ensures { λ r. ⌜ r ≡ eqb (readPoint v) v && (ltb k b || eqb v blank) ⌝ }
+{
+    if messages::read_point(v) != v {
+        return false;
+    }
+    if k < b {
+        return true;
+    }
+    v == Field::BLANK
+}
+
+fn points_fit(b: usize, kept: [u16; 32]) -> bool
+    ensures { λ r. ⌜ r ≡ all (pointFits b kept) 32 ⌝ }
+{
+    for k in 0..32 {
+        if !point_fits(b, k, messages::value(&kept, k)) {
+            return false;
+        }
+    }
+    true
+}
+
+// The arrays of a state.
+fn arrays_fit(column: Column) -> bool
+    ensures { λ r. ⌜ r ≡ arraysFit column ⌝ }
+{
+    let bytes = column.bytes;
+    if !bytes_fit(column.m, bytes) {
+        return false;
+    }
+    let agreements = column.agreements;
+    if !flags_fit(column.n, agreements) {
+        return false;
+    }
+    let reports = column.reports;
+    if !flags_fit(column.n, reports) {
+        return false;
+    }
+    let kept = column.kept;
+    points_fit(sizes::blocks(column.n, column.m), kept)
+}
+
+// Whether every part of the state is in its range.
+pub(super) fn fits(column: Column) -> bool
+    ensures { λ r. ⌜ r ≡ fitsOf column ⌝ }
+{
+    if !numbers_fit(column) {
+        return false;
+    }
+    arrays_fit(column)
+}

@@ -7,7 +7,6 @@ ghost use mathlib.Core.Path.{_≡_};
 ghost use mathlib.Core.Bool.{true};
 ghost use lib.ListN.{length};
 ghost use Rattle.messages.specs.Messages.{heardOfAll};
-ghost use Rattle.dispersal.specs.Dispersal.{secondReport, agrees, reported};
 ghost use Rattle.agreement.specs.declared.Kind.the-variants.{FirstReport, SecondReport};
 ghost use Rattle.agreement.specs.Rounds.{message};
 ghost use Rattle.column.specs.Ready.{Ready, toColumns, hasOne, word as wordOf};

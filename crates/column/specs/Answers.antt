@@ -4,38 +4,33 @@ use mathlib.Core.Bool.{Bool, true, false, cond, not}
 use mathlib.Core.List.{List}
 use Prim.Native.Nat.{ℕ, _*_, _≤_}
 use native.Mathlib.Omega.{arith}
-use borrow.Author.Tests.{eq-eqb, ne-eqb, not-true}
+use borrow.Author.Tests.{eq-eqb, ne-eqb, eqb-true, not-true}
 use lib.Dec.{T, eqb, eqb→eq}
-use lib.ListN.{replicate}
+use lib.ListN.{length, replicate}
 use Rattle.lists.specs.Lists.{rowsOf}
 use Rattle.lists.specs.Tests.{and-left, and-right, is-true, passes}
 use Rattle.sizes.specs.Sizes.{rounds, values, outside, refusal}
 use Rattle.sizes.specs.Laws.{inside, faults-le, rounds-are, accepted}
-use Rattle.messages.specs.Messages.{said}
+use Rattle.messages.specs.Messages.{said, unlessRefused}
 use Rattle.messages.specs.Laws.{accepted as messages-accepted}
 use Rattle.agreement.specs.declared.Outcome.{Outcome}
 use Rattle.agreement.specs.declared.Stage.{Stage}
 use Rattle.agreement.specs.declared.Stage.the-variants.{Speak, Listen, Ended}
 use Rattle.agreement.specs.declared.Column.{Column}
-use Rattle.agreement.specs.declared.Answer.the-variants.{Done, Refused}
-use Rattle.agreement.specs.declared.Answered.{Answered}
+use Rattle.agreement.specs.declared.Answer.the-variants.{Refused}
 use Rattle.agreement.specs.declared.Reply.the-variants as R
 use Rattle.agreement.specs.declared.Replied.{Replied}
 use Rattle.agreement.specs.Column.{stageFits, numbersFit, fits}
 use Rattle.agreement.specs.Rounds.{kindOf, message, outgoing}
-use Rattle.agreement.specs.Calls.{answerOf, answered, roundOf, whenSpeaking, whenListening, inState, inRound, speakRefusal, listenRefusal, outcomeRefusal, ending, replyOf, shown, outcome}
-use Rattle.column.specs.Ready.{Ready, toColumns, width-is}
+use Rattle.agreement.specs.Calls.{answered, roundOf, whenSpeaking, whenListening, inState, inRound, speakRefusal, written, listenRefusal, outcomeRefusal, ending, replyOf, shown, outcome}
+use Rattle.column.specs.Ready.{Ready, toColumns, width, width-is}
 
 -- REFUSED OR NOT
 
-module _ (r why : ℕ) (e : r ≡ why) (done before : Column) where
-  pub answered-refused : (r ≡ 0 → ⊥) → (b : Column) → b ≡ before → _≡_ {A = Answered} (record { answer = Refused r; column = b }) (answered why done before)
-  unfolding answered answerOf
-  answered-refused h b q = rw (q, ← e, ne-eqb r 0 h) refl
-
-  pub answered-done : r ≡ 0 → (d : Column) → d ≡ done → _≡_ {A = Answered} (record { answer = Done; column = d }) (answered why done before)
-  unfolding answered answerOf
-  answered-done z d q = rw (q, ← e, eq-eqb r 0 z) refl
+-- what a refused call would have done plays no part
+pub refused-alike : (why : ℕ) (done other before : Column) → (why ≡ 0 → ⊥) → answered why done before ≡ answered why other before
+unfolding answered
+refused-alike why done other before h = rw (ne-eqb why 0 h) refl
 
 module _ (c : Column) (r : ℕ) (e : r ≡ outcomeRefusal c) where
   pub replied-refused : (r ≡ 0 → ⊥) → _≡_ {A = Replied} (record { reply = R.Refused r; bytes = replicate 32 0; column = c }) (outcome c)
@@ -114,7 +109,18 @@ module _ (c : Column) where
   unfolding listenRefusal
   may-listen len = turn (whenListening (c .stage)) len (listening-in (c .n) (c .stage))
 
-  -- what is said to all columns in a round of the run
-  pub outgoing-is : (round : ℕ) → 1 ≤ round → round ≤ rounds (c .n) → toColumns (kindOf (c .n) round) c ≡ outgoing c round
-  unfolding toColumns outgoing
-  outgoing-is round l h = ap (λ (w : ℕ). rowsOf (λ j. said (message (kindOf (c .n) round) c j)) w (c .n)) (sym (width-is (c .n) (c .m) round l h))
+  -- the slice after a call to speak
+  pub written-is : (out : List ℕ) (why round : ℕ) → why ≡ speakRefusal c (length out) → round ≡ roundOf (c .stage)
+      → unlessRefused why (toColumns (kindOf (c .n) round) c) out ≡ written c out
+  unfolding written unlessRefused toColumns outgoing
+  written-is out why round e q = rw (q, e) (go (eqb (speakRefusal c (length out)) 0) refl)
+    where
+      rows : ℕ → List ℕ
+      rows w = rowsOf (λ j. said (message (kindOf (c .n) (roundOf (c .stage))) c j)) w (c .n)
+
+      go : (b : Bool) → eqb (speakRefusal c (length out)) 0 ≡ b
+          → _≡_ {A = List ℕ} (cond b (rows (width (c .n) (c .m) (kindOf (c .n) (roundOf (c .stage))))) out) (cond b (rows (values (c .n) (c .m) (roundOf (c .stage)))) out)
+      go true z =
+          let t = may-speak (length out) (eqb-true (speakRefusal c (length out)) 0 z) in
+          ap rows (sym (width-is (c .n) (c .m) (roundOf (c .stage)) (t .low) (t .high)))
+      go false z = refl

@@ -20,9 +20,26 @@ use agreement::Stage;
 ghost use mathlib.Core.Path.{_≡_};
 ghost use Prim.Native.Nat.{_≤_};
 ghost use lib.ListN.{length};
-ghost use Rattle.agreement.specs.Rounds.{goesOn, hears};
-ghost use Rattle.agreement.specs.Calls.{fresh as freshOf, speak as speakOf, written, listen as listenOf, outcome as outcomeOf};
+ghost use Rattle.messages.specs.Messages.{unlessRefused};
+ghost use Rattle.agreement.specs.Rounds.{kindOf, goesOn, hears};
+ghost use Rattle.agreement.specs.Calls.{answered as answeredOf, fresh as freshOf, speak as speakOf, written, listen as listenOf, outcome as outcomeOf};
 ghost use Rattle.column.specs.Ready.{Ready, toColumns};
+
+// What a call answers: done, or the number of its refusal with the state as it was before.
+fn answered(why: u8, done: Column, before: Column) -> Answered
+    ensures { λ r. ⌜ r ≡ answeredOf why done before ⌝ }
+{
+    if why != 0 {
+        return Answered {
+            answer: Answer::Refused(why),
+            column: before,
+        };
+    }
+    Answered {
+        answer: Answer::Done,
+        column: done,
+    }
+}
 
 // Makes column `own` of a wall of n columns, with a record of m bytes. Refused with 1, 2, 3 for the sizes and the own number, with 4 for a
 // record of another length.
@@ -30,16 +47,7 @@ pub fn fresh(n: u8, m: u8, own: u8, bytes: &[u8]) -> Answered
     ensures { λ r. ⌜ r ≡ freshOf n m own (now (bytes .entry)) ⌝ }
 {
     let why = refusals::to_make(n, m, own, bytes.len());
-    if why != 0 {
-        return Answered {
-            answer: Answer::Refused(why),
-            column: start::no_column(),
-        };
-    }
-    Answered {
-        answer: Answer::Done,
-        column: start::column(n, m, own, bytes),
-    }
+    answered(why, start::column(n, m, own, bytes), start::no_column())
 }
 
 // Writes to each column what the column says to it in a round of the kind.
@@ -55,27 +63,33 @@ fn say(column: Column, kind: Kind, out: &mut [u16])
     }
 }
 
+// Writes the messages of a round, unless the call is refused.
+fn say_unless(why: u8, column: Column, round: u8, out: &mut [u16])
+    requires { ⌜ (why ≡ 0 → Ready (kindOf (column .n) round) column (length (now out))) ⌝ }
+    ensures { λ _. ⌜ now (out .exit) ≡ unlessRefused why (toColumns (kindOf (column .n) round) column) (now (out .entry)) ⌝ }
+{
+    if why != 0 {
+        return;
+    }
+    say(column, rounds::kind_of(column.n, round), out);
+}
+
 // Writes the messages of the round to the outgoing slice, one to each column. Refused with 11, 10, 7, then 4.
 pub fn speak(column: Column, out: &mut [u16]) -> Answered
     ensures { λ r. ⌜ (r ≡ speakOf column (now (out .entry))) × (now (out .exit) ≡ written column (now (out .entry))) ⌝ }
 {
     let why = refusals::to_speak(column, out.len());
-    if why != 0 {
-        return Answered {
-            answer: Answer::Refused(why),
-            column: column,
-        };
-    }
     let stage = column.stage;
     let round = refusals::round_of(stage);
-    say(column, rounds::kind_of(column.n, round), out);
-    Answered {
-        answer: Answer::Done,
-        column: Column {
+    say_unless(why, column, round, out);
+    answered(
+        why,
+        Column {
             stage: Stage::Listen(round),
             ..column
         },
-    }
+        column,
+    )
 }
 
 // What the column has become after it listened in a round of the kind.
@@ -101,17 +115,15 @@ pub fn listen(column: Column, inbox: &[u16]) -> Answered
 {
     let why = refusals::to_listen(column, inbox.len());
     if why != 0 {
-        return Answered {
-            answer: Answer::Refused(why),
-            column: column,
-        };
+        return answered(why, column, column);
     }
     let stage = column.stage;
     let round = refusals::round_of(stage);
-    Answered {
-        answer: Answer::Done,
-        column: hear(column, rounds::kind_of(column.n, round), round, inbox),
-    }
+    answered(
+        why,
+        hear(column, rounds::kind_of(column.n, round), round, inbox),
+        column,
+    )
 }
 
 // What the column ended on, with the record's bytes: zeros past m, and zeros where there is none. Refused with 11, then 9.

@@ -2,16 +2,19 @@
 use mathlib.Core.Path.{refl, sym, _∙_}
 use borrow.Author.Needs.{needs}
 use Rattle.agreement.specs.Calls.{listen}
-use Rattle.column.specs.Answers.{answered-refused, answered-done, may-listen}
+use Rattle.column.specs.Answers.{refused-alike, may-listen}
 use Rattle.column.proofs.listen.Statement.{statement}
 use Rattle.column.proofs.listen.Tie as tie
 
 to-listen-requires : tie.Need-to-listen-requires
 to-listen-requires c κs = search needs
 
+answered-requires : tie.Need-answered-requires
+answered-requires c κs = search needs
+
 returns : tie.Need-returns
 unfolding listen
-returns c = answered-refused _ _ (c .before .to-listen .ensures) _ _ (c .if1 .taken) _ refl
+returns c = rw (c .answered .ensures, c .before .before .to-listen .ensures) (refused-alike _ _ _ _ (λ z. c .before .if1 .taken (c .before .before .to-listen .ensures ∙ z)))
 
 round-of-requires : tie.Need-round-of-requires
 round-of-requires c κs = search needs
@@ -23,17 +26,22 @@ hear-requires : tie.Need-hear-requires
 hear-requires c κs = let t = may-listen _ _ (sym (c .before .before .before .to-listen .ensures) ∙ c .before .before .if1 .left) in
     (rw (c .kind-of .ensures, c .before .round-of .ensures) (t .ready), rw (c .before .round-of .ensures) (t .few))
 
+answered-requires-2 : tie.Need-answered-requires-2
+answered-requires-2 c κs = search needs
+
 returns-2 : tie.Need-returns-2
 unfolding listen
-returns-2 c = answered-done _ _ (c .before .before .before .before .to-listen .ensures) _ _ (c .before .before .before .if1 .left) _ (rw (c .hear .ensures, c .before .kind-of .ensures, c .before .before .round-of .ensures) refl)
+returns-2 c = rw (c .answered2 .ensures, c .before .hear .ensures, c .before .before .kind-of .ensures, c .before .before .before .round-of .ensures, c .before .before .before .before .before .to-listen .ensures) refl
 
 pub listen-spec : {M : Type 1} → statement M
 listen-spec =
     tie.close
     (tie.spec
     to-listen-requires
+    answered-requires
     returns
     round-of-requires
     kind-of-requires
     hear-requires
+    answered-requires-2
     returns-2)

@@ -1,0 +1,24 @@
+-- `say_unless` meets its contract.
+use mathlib.Core.Path.{sym, _∙_}
+use borrow.Author.Needs.{needs}
+use Rattle.messages.specs.Laws.{if-refused, if-done}
+use Rattle.column.proofs.say_unless.Statement.{statement}
+use Rattle.column.proofs.say_unless.Tie as tie
+
+returns : tie.Need-returns
+returns c = sym (if-refused _ _ _ (c .if1 .taken))
+
+kind-of-requires : tie.Need-kind-of-requires
+kind-of-requires c κs = search needs
+
+say-requires : tie.Need-say-requires
+say-requires c κs = rw (c .before .kind-of .ensures) (c .before .before .before .before .pre (c .before .before .if1 .left))
+
+same-length : tie.Need-same-length
+same-length c = search needs
+
+returns-2 : tie.Need-returns-2
+returns-2 c = c .before .before .say .ensures ∙ rw (c .before .before .before .before .kind-of .ensures) (sym (if-done _ _ _ (c .before .before .before .before .before .if1 .left)))
+
+pub say-unless-spec : {M : Type 1} → statement M
+say-unless-spec = tie.close (tie.spec returns kind-of-requires say-requires same-length returns-2)

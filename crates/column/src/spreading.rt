@@ -7,6 +7,8 @@ ghost use mathlib.Core.Path.{_≡_};
 ghost use Prim.Native.Nat.{_≤_};
 ghost use lib.ListN.{length};
 ghost use Rattle.agreement.specs.declared.Kind.the-variants.{Points, KeptPoints};
+ghost use Rattle.agreement.specs.declared.Stage.the-variants.{Ended};
+ghost use Rattle.agreement.specs.Parts.{withStage};
 ghost use Rattle.agreement.specs.Rounds.{votesOne, spreads as spreadsOf, hears};
 ghost use Rattle.column.specs.Ready.{Ready, toColumns};
 
@@ -65,16 +67,23 @@ pub(super) fn say_kept(column: Column, out: &mut [u16])
     dissemination::decoding::send(column.n, column.m, votes_one(column), kept, out);
 }
 
+// A column that ended.
+fn ended(column: Column, outcome: Outcome) -> Column
+    ensures { λ r. ⌜ r ≡ withStage (Ended outcome) column ⌝ }
+{
+    Column {
+        stage: Stage::Ended(outcome),
+        ..column
+    }
+}
+
 // The end: on the record that the kept points decode to, or on none, as with vote 0.
 pub(super) fn hear_kept(column: Column, inbox: &[u16]) -> Column
     requires { ⌜ Ready KeptPoints column (length (now inbox)) ⌝ }
     ensures { λ r. ⌜ r ≡ hears KeptPoints 0 column (now (inbox .entry)) ⌝ }
 {
     if !votes_one(column) {
-        return Column {
-            stage: Stage::Ended(Outcome::Nothing),
-            ..column
-        };
+        return ended(column, Outcome::Nothing);
     }
     let kept = column.kept;
     let decoded = dissemination::decoding::decode(
@@ -86,15 +95,14 @@ pub(super) fn hear_kept(column: Column, inbox: &[u16]) -> Column
         inbox,
     );
     if !decoded.found {
-        return Column {
-            stage: Stage::Ended(Outcome::Nothing),
-            ..column
-        };
+        return ended(column, Outcome::Nothing);
     }
     let bytes = decoded.bytes;
-    Column {
-        bytes: bytes,
-        stage: Stage::Ended(Outcome::Record),
-        ..column
-    }
+    ended(
+        Column {
+            bytes: bytes,
+            ..column
+        },
+        Outcome::Record,
+    )
 }

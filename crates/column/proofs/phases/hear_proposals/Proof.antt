@@ -1,8 +1,8 @@
 -- `phases::hear_proposals` meets its contract.
-use mathlib.Core.Path.{refl}
+use mathlib.Core.Path.{_≡_, refl}
 use borrow.Author.Needs.{needs}
+use Rattle.agreement.specs.Rounds.{goesOn, hears, received, resettled}
 use Rattle.agreement.specs.Parts.{withVote}
-use Rattle.agreement.specs.Rounds.{hears, received, resettled}
 use Rattle.column.specs.Ready.{hasOne}
 use Rattle.column.proofs.phases.hear_proposals.Statement.{statement}
 use Rattle.column.proofs.phases.hear_proposals.Tie as tie
@@ -22,7 +22,9 @@ goes-on-requires c κs = search needs
 
 returns : tie.Need-returns
 unfolding hears received withVote resettled
-returns c = rw (c .goes-on .ensures, c .before .before .before .before .before .firm .ensures, c .before .before .before .before .before .before .settled .ensures, c .before .before .before .before .before .before .before .received .ensures) refl
+returns c = let a = c .before .before .before .before .before .before .before .before .before .args in
+    let e : c .goes-on .result ≡ goesOn (a .round) (withVote (c .before .before .before .before .before .before .settled .result) (c .before .before .before .before .before .firm .result) (a .column)) = c .goes-on .ensures in
+    rw (e, c .before .before .before .before .before .firm .ensures, c .before .before .before .before .before .before .settled .ensures, c .before .before .before .before .before .before .before .received .ensures) refl
 
 pub hear-proposals-spec : {M : Type 1} → statement M
 hear-proposals-spec =

@@ -1,9 +1,9 @@
 // Plays two runs of a wall of four columns, with records of one byte, by the public calls of a column. In the first run all four are
 // sound and column 4 holds another record; in the second, document 01's worked sheet, column 4 is unsound and tells every neighbour
 // something else. A line is what a column answers for its outcome, column 1 also before the run.
-use agreement::Column;
-use agreement::Outcome;
-use agreement::Reply;
+use column::Column;
+use column::Outcome;
+use column::Reply;
 use libc::STDOUT_FILENO;
 ghost use Prim.Native.Nat.{_≤_};
 

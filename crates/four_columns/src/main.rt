@@ -90,7 +90,7 @@ fn delivered(to: u8, round: u8, a: [u16; 8], b: [u16; 8], c: [u16; 8], d: [u16; 
 fn lies(round: u8) -> [u16; 8] {
     let blank = 65535u16;
     if round == 1 {
-        return [65, 65, 65, 65, blank, blank, blank, blank];
+        return [0x41, 0x41, 0x41, 0x41, blank, blank, blank, blank];
     }
     if round == 2 {
         return [1, 1, blank, blank, blank, blank, blank, blank];
@@ -190,8 +190,8 @@ fn ended(wall: Wall, lying: bool) -> Wall {
 // A run with the records of columns 3 and 4; columns 1 and 2 hold 41.
 fn run(c: u8, d: u8, lying: bool) {
     let start = Wall {
-        a: made(1, 65),
-        b: made(2, 65),
+        a: made(1, 0x41),
+        b: made(2, 0x41),
         c: made(3, c),
         d: made(4, d),
     };
@@ -208,6 +208,6 @@ fn run(c: u8, d: u8, lying: bool) {
 }
 
 fn main() {
-    run(65, 66, false);
-    run(66, 65, true);
+    run(0x41, 0x42, false);
+    run(0x42, 0x41, true);
 }

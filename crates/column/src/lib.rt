@@ -3,9 +3,11 @@
 // nothing.
 mod endings;
 mod exchange;
+mod listening;
 mod phases;
 mod reports;
 mod rounds;
+mod speaking;
 mod spreading;
 mod start;
 mod words;
@@ -13,18 +15,12 @@ mod words;
 pub use agreement::Answer;
 pub use agreement::Answered;
 pub use agreement::Column;
-use agreement::Kind;
 pub use agreement::Outcome;
 pub use agreement::Replied;
 pub use agreement::Reply;
 pub use agreement::Stage;
 ghost use mathlib.Core.Path.{_≡_};
-ghost use Prim.Native.Nat.{_≤_};
-ghost use lib.ListN.{length};
-ghost use Rattle.messages.specs.Messages.{unlessRefused};
-ghost use Rattle.agreement.specs.Rounds.{kindOf, goesOn, hears};
 ghost use Rattle.agreement.specs.Calls.{answered as answeredOf, fresh as freshOf, speak as speakOf, written, listen as listenOf, outcome as outcomeOf};
-ghost use Rattle.column.specs.Ready.{Ready, toColumns};
 
 // What a call answers: done, or the number of its refusal with the state as it was before.
 fn answered(why: u8, done: Column, before: Column) -> Answered
@@ -51,30 +47,6 @@ pub fn fresh(n: u8, m: u8, own: u8, bytes: &[u8]) -> Answered
     answered(why, start::column(n, m, own, bytes), start::no_column())
 }
 
-// Writes to each column what the column says to it in a round of the kind.
-fn say(column: Column, kind: Kind, out: &mut [u16])
-    requires { ⌜ Ready kind column (length (now out)) ⌝ }
-    ensures { λ _. ⌜ now (out .exit) ≡ toColumns kind column ⌝ }
-{
-    match kind {
-        Kind::Exchange => exchange::say(column, out),
-        Kind::Points => spreading::say_points(column, out),
-        Kind::KeptPoints => spreading::say_kept(column, out),
-        _ => words::say(column, kind, out),
-    }
-}
-
-// Writes the messages of a round, unless the call is refused.
-fn say_unless(why: u8, column: Column, round: u8, out: &mut [u16])
-    requires { ⌜ (why ≡ 0 → Ready (kindOf (column .n) round) column (length (now out))) ⌝ }
-    ensures { λ _. ⌜ now (out .exit) ≡ unlessRefused why (toColumns (kindOf (column .n) round) column) (now (out .entry)) ⌝ }
-{
-    if why != 0 {
-        return;
-    }
-    say(column, rounds::kind_of(column.n, round), out);
-}
-
 // Writes the messages of the round to the outgoing slice, one to each column. Refused with 11, 10, 7, then 4.
 pub fn speak(column: Column, out: &mut [u16]) -> Answered
     ensures { λ r. ⌜ (r ≡ speakOf column (now (out .entry))) × (now (out .exit) ≡ written column (now (out .entry))) ⌝ }
@@ -82,7 +54,7 @@ pub fn speak(column: Column, out: &mut [u16]) -> Answered
     let why = refusals::to_speak(column, out.len());
     let stage = column.stage;
     let round = refusals::round_of(stage);
-    say_unless(why, column, round, out);
+    speaking::say_unless(why, column, round, out);
     answered(
         why,
         Column {
@@ -91,23 +63,6 @@ pub fn speak(column: Column, out: &mut [u16]) -> Answered
         },
         column,
     )
-}
-
-// What the column has become after it listened in a round of the kind.
-fn hear(column: Column, kind: Kind, round: u8, inbox: &[u16]) -> Column
-    requires { ⌜ Ready kind column (length (now inbox)) × (round ≤ 254) ⌝ }
-    ensures { λ r. ⌜ r ≡ hears kind round column (now (inbox .entry)) ⌝ }
-{
-    match kind {
-        Kind::Exchange => exchange::hear(column, round, inbox),
-        Kind::FirstReport => reports::hear_first(column, round, inbox),
-        Kind::SecondReport => reports::hear_second(column, round, inbox),
-        Kind::Votes => phases::hear_votes(column, round, inbox),
-        Kind::Proposals => phases::hear_proposals(column, round, inbox),
-        Kind::King(king) => phases::hear_king(column, king, round, inbox),
-        Kind::Points => spreading::hear_points(column, round, inbox),
-        Kind::KeptPoints => spreading::hear_kept(column, inbox),
-    }
 }
 
 // Reads the messages of the round from the incoming slice, one from each column. Refused with 11, 10, 8, then 4.
@@ -122,7 +77,7 @@ pub fn listen(column: Column, inbox: &[u16]) -> Answered
     let round = refusals::round_of(stage);
     answered(
         why,
-        hear(column, rounds::kind_of(column.n, round), round, inbox),
+        listening::hear(column, rounds::kind_of(column.n, round), round, inbox),
         column,
     )
 }
@@ -146,16 +101,5 @@ pub fn outcome(column: Column) -> Replied
         reply: Reply::Ended(ended),
         bytes: endings::shown(ended, bytes),
         column: column,
-    }
-}
-
-// The next round's turn to speak.
-fn goes_on(column: Column, round: u8) -> Column
-    requires { ⌜ round ≤ 254 ⌝ }
-    ensures { λ r. ⌜ r ≡ goesOn round column ⌝ }
-{
-    Column {
-        stage: Stage::Speak(round + 1),
-        ..column
     }
 }

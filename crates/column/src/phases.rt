@@ -1,5 +1,5 @@
 // Rounds 4 to 3t + 6: the king rule, three rounds a phase.
-use super::goes_on;
+use super::listening::goes_on;
 use super::words::received;
 use super::words::word;
 use agreement::Column;

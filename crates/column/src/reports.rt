@@ -1,5 +1,5 @@
 // Rounds 2 and 3: the reports, and the grade that the second ones give.
-use super::goes_on;
+use super::listening::goes_on;
 use super::words::received;
 use agreement::Column;
 use agreement::Kind;
@@ -8,6 +8,7 @@ ghost use Prim.Native.Nat.{_≤_};
 ghost use Rattle.agreement.specs.declared.Kind.the-variants.{FirstReport, SecondReport};
 ghost use Rattle.agreement.specs.Rounds.{firstVote, hears};
 
+// Which first reports came.
 pub(super) fn hear_first(column: Column, round: u8, inbox: &[u16]) -> Column
     requires { ⌜ round ≤ 254 ⌝ }
     ensures { λ r. ⌜ r ≡ hears FirstReport round column (now (inbox .entry)) ⌝ }
@@ -33,6 +34,7 @@ fn first_vote(grade: u8) -> u8
     0
 }
 
+// The second reports give the grade, and the grade the vote.
 pub(super) fn hear_second(column: Column, round: u8, inbox: &[u16]) -> Column
     requires { ⌜ round ≤ 254 ⌝ }
     ensures { λ r. ⌜ r ≡ hears SecondReport round column (now (inbox .entry)) ⌝ }

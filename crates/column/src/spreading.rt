@@ -1,5 +1,5 @@
 // Rounds 3t + 7 and 3t + 8: dissemination, and the end.
-use super::goes_on;
+use super::listening::goes_on;
 use agreement::Column;
 use agreement::Outcome;
 use agreement::Stage;
@@ -12,6 +12,7 @@ ghost use Rattle.agreement.specs.Parts.{withStage};
 ghost use Rattle.agreement.specs.Rounds.{votesOne, spreads as spreadsOf, hears};
 ghost use Rattle.column.specs.Ready.{Ready, toColumns};
 
+// The vote is 1.
 fn votes_one(column: Column) -> bool
     ensures { λ r. ⌜ r ≡ votesOne column ⌝ }
 {
@@ -28,6 +29,7 @@ fn spreads(column: Column) -> bool
     false
 }
 
+// To each column its points.
 pub(super) fn say_points(column: Column, out: &mut [u16])
     requires { ⌜ Ready Points column (length (now out)) ⌝ }
     ensures { λ _. ⌜ now (out .exit) ≡ toColumns Points column ⌝ }
@@ -36,6 +38,7 @@ pub(super) fn say_points(column: Column, out: &mut [u16])
     dissemination::points::send(column.n, column.m, spreads(column), bytes, out);
 }
 
+// The points that came often are kept.
 pub(super) fn hear_points(column: Column, round: u8, inbox: &[u16]) -> Column
     requires { ⌜ Ready Points column (length (now inbox)) × (round ≤ 254) ⌝ }
     ensures { λ r. ⌜ r ≡ hears Points round column (now (inbox .entry)) ⌝ }
@@ -59,6 +62,7 @@ pub(super) fn hear_points(column: Column, round: u8, inbox: &[u16]) -> Column
     )
 }
 
+// The kept points to all, with vote 1.
 pub(super) fn say_kept(column: Column, out: &mut [u16])
     requires { ⌜ Ready KeptPoints column (length (now out)) ⌝ }
     ensures { λ _. ⌜ now (out .exit) ≡ toColumns KeptPoints column ⌝ }

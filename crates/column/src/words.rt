@@ -11,6 +11,7 @@ ghost use Rattle.agreement.specs.declared.Kind.the-variants.{FirstReport, Secon
 ghost use Rattle.agreement.specs.Rounds.{message};
 ghost use Rattle.column.specs.Ready.{Ready, toColumns, hasOne, word as wordOf};
 
+// The first report, from the agreements.
 fn first_report(column: Column) -> u16
     ensures { λ r. ⌜ r ≡ wordOf FirstReport column ⌝ }
 {
@@ -18,6 +19,7 @@ fn first_report(column: Column) -> u16
     dispersal::reports::first(column.n, agreements)
 }
 
+// The second report, from the agreements and the first reports that came.
 fn second_report(column: Column) -> u16
     ensures { λ r. ⌜ r ≡ wordOf SecondReport column ⌝ }
 {
@@ -26,7 +28,7 @@ fn second_report(column: Column) -> u16
     dispersal::reports::second(column.n, column.own, agreements, reports)
 }
 
-// What the column says in a round of the kind.
+// What the column says in a round of the kind; blank where a message has more than one value.
 pub(super) fn word(column: Column, kind: Kind) -> u16
     ensures { λ r. ⌜ r ≡ wordOf kind column ⌝ }
 {

@@ -24,6 +24,7 @@ pub fn round_of(stage: Stage) -> u8
     }
 }
 
+// To speak: 7 when it should listen, 10 after the end.
 fn when_speaking(stage: Stage) -> u8
     ensures { λ r. ⌜ r ≡ whenSpeaking stage ⌝ }
 {
@@ -34,6 +35,7 @@ fn when_speaking(stage: Stage) -> u8
     }
 }
 
+// To listen: 8 when it should speak, 10 after the end.
 fn when_listening(stage: Stage) -> u8
     ensures { λ r. ⌜ r ≡ whenListening stage ⌝ }
 {
@@ -44,6 +46,7 @@ fn when_listening(stage: Stage) -> u8
     }
 }
 
+// The outcome: 9 before the end.
 fn when_asked(stage: Stage) -> u8
     ensures { λ r. ⌜ r ≡ whenAsked stage ⌝ }
 {
@@ -64,7 +67,7 @@ fn in_state(column: Column, why: u8) -> u8
     11
 }
 
-// And 4 behind both, for a slice that is not as long as the round's messages.
+// And 4 after both, for a slice that is not as long as the round's messages.
 fn in_round(column: Column, why: u8, len: usize) -> u8
     ensures { λ r. ⌜ r ≡ inRound column why len ⌝ }
 {

@@ -1,10 +1,10 @@
--- `goes_on` meets its contract.
+-- `listening::goes_on` meets its contract.
 use mathlib.Core.Path.{refl}
 use borrow.Author.Needs.{needs}
 use Rattle.agreement.specs.Parts.{withStage}
 use Rattle.agreement.specs.Rounds.{goesOn}
-use Rattle.column.proofs.goes_on.Statement.{statement}
-use Rattle.column.proofs.goes_on.Tie as tie
+use Rattle.column.proofs.listening.goes_on.Statement.{statement}
+use Rattle.column.proofs.listening.goes_on.Tie as tie
 
 add-t3 : tie.Need-add-t3
 add-t3 c = search needs

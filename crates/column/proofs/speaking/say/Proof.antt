@@ -1,4 +1,4 @@
--- `say` meets its contract.
+-- `speaking::say` meets its contract.
 use mathlib.Core.Path.{_≡_, refl}
 use mathlib.Core.Bool.{true}
 use mathlib.Core.List.{[], _∷_}
@@ -9,8 +9,8 @@ use Rattle.agreement.specs.declared.Kind.the-variants.{Exchange, FirstReport, S
 use Rattle.agreement.specs.declared.Kind.{Kind}
 use Rattle.agreement.proofs.Kind.{the-type}
 use Rattle.column.specs.Ready.{hasOne}
-use Rattle.column.proofs.say.Statement.{statement}
-use Rattle.column.proofs.say.Tie as tie
+use Rattle.column.proofs.speaking.say.Statement.{statement}
+use Rattle.column.proofs.speaking.say.Tie as tie
 
 -- the other kinds
 has-one : (kind : Kind) → OneOf (1 ∷ 2 ∷ 3 ∷ 4 ∷ 5 ∷ []) (tagOf the-type kind) → hasOne kind ≡ true

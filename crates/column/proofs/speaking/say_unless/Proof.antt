@@ -1,9 +1,9 @@
--- `say_unless` meets its contract.
+-- `speaking::say_unless` meets its contract.
 use mathlib.Core.Path.{sym, _∙_}
 use borrow.Author.Needs.{needs}
 use Rattle.messages.specs.Laws.{if-refused, if-done}
-use Rattle.column.proofs.say_unless.Statement.{statement}
-use Rattle.column.proofs.say_unless.Tie as tie
+use Rattle.column.proofs.speaking.say_unless.Statement.{statement}
+use Rattle.column.proofs.speaking.say_unless.Tie as tie
 
 returns : tie.Need-returns
 returns c = sym (if-refused _ _ _ (c .if1 .taken))

@@ -1,8 +1,8 @@
--- `hear` meets its contract.
+-- `listening::hear` meets its contract.
 use borrow.Author.Needs.{needs}
 use Rattle.agreement.specs.Rounds.{hears}
-use Rattle.column.proofs.hear.Statement.{statement}
-use Rattle.column.proofs.hear.Tie as tie
+use Rattle.column.proofs.listening.hear.Statement.{statement}
+use Rattle.column.proofs.listening.hear.Tie as tie
 
 enum-told : tie.Need-enum-told
 enum-told c = search needs

@@ -40,11 +40,11 @@ fn answered(why: u8, done: Column, before: Column) -> Answered
 
 // Makes column `own` of a wall of n columns, with a record of m bytes. Refused with 1, 2, 3 for the sizes and the own number, with 4 for a
 // record of another length.
-pub fn fresh(n: u8, m: u8, own: u8, bytes: &[u8]) -> Answered
-    ensures { λ r. ⌜ r ≡ freshOf n m own (now (bytes .entry)) ⌝ }
+pub fn fresh(n: u8, m: u8, own: u8, record: &[u8]) -> Answered
+    ensures { λ r. ⌜ r ≡ freshOf n m own (now («record» .entry)) ⌝ }
 {
-    let why = refusals::to_make(n, m, own, bytes.len());
-    answered(why, start::column(n, m, own, bytes), start::no_column())
+    let why = refusals::to_make(n, m, own, record.len());
+    answered(why, start::column(n, m, own, record), start::no_column())
 }
 
 // Writes the messages of the round to the outgoing slice, one to each column. Refused with 11, 10, 7, then 4.

@@ -47,7 +47,9 @@ pub fn fresh(n: u8, m: u8, own: u8, record: &[u8]) -> Answered
     answered(why, start::column(n, m, own, record), start::no_column())
 }
 
-// Writes the messages of the round to the outgoing slice, one to each column. Refused with 11, 10, 7, then 4.
+// Writes the messages of the round to the outgoing slice: one to each column, itself included, by column number, each as long as
+// `sizes::values` says. Refused with 11 for a state out of its ranges, 10 after the end, 7 when the column should listen, then 4 for a slice
+// of another length.
 pub fn speak(column: Column, out: &mut [u16]) -> Answered
     ensures { λ r. ⌜ (r ≡ speakOf column (now (out .entry))) × (now (out .exit) ≡ written column (now (out .entry))) ⌝ }
 {
@@ -65,7 +67,8 @@ pub fn speak(column: Column, out: &mut [u16]) -> Answered
     )
 }
 
-// Reads the messages of the round from the incoming slice, one from each column. Refused with 11, 10, 8, then 4.
+// Reads the messages of the round from the incoming slice, which lie there as they were written; what lies at the own place is not read.
+// Refused with 11, 10, 8 when the column should speak, then 4.
 pub fn listen(column: Column, inbox: &[u16]) -> Answered
     ensures { λ r. ⌜ r ≡ listenOf column (now (inbox .entry)) ⌝ }
 {
@@ -82,7 +85,8 @@ pub fn listen(column: Column, inbox: &[u16]) -> Answered
     )
 }
 
-// What the column ended on, with the record's bytes: zeros past m, and zeros where there is none. Refused with 11, then 9.
+// What the column ended on, with the record's bytes: zeros past m, and zeros where there is none. Refused with 11, then with 9 before the
+// end.
 pub fn outcome(column: Column) -> Replied
     ensures { λ r. ⌜ r ≡ outcomeOf column ⌝ }
 {

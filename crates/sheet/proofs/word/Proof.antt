@@ -1,0 +1,44 @@
+-- `word` meets its contract.
+use borrow.Author.Needs.{needs}
+use mathlib.Core.Path.{refl}
+use Rattle.sheet.specs.Sheet.{word}
+use Rattle.sheet.proofs.word.Statement.{statement}
+use Rattle.sheet.proofs.word.Tie as tie
+
+byte-requires : tie.Need-byte-requires
+byte-requires c κs = search needs
+
+cast-low : tie.Need-cast-low
+cast-low c = search needs
+
+add-byte : tie.Need-add-byte
+add-byte c = search needs
+
+byte-requires-2 : tie.Need-byte-requires-2
+byte-requires-2 c κs = search needs
+
+cast-high : tie.Need-cast-high
+cast-high c = search needs
+
+mul-result : tie.Need-mul-result
+mul-result c = search needs
+
+add-result : tie.Need-add-result
+add-result c = search needs
+
+returns : tie.Need-returns
+unfolding word
+returns c = rw (c .before .byte .ensures, c .byte2 .ensures) refl
+
+pub word-spec : {M : Type 1} → statement M
+word-spec =
+    tie.close
+    (tie.spec
+    byte-requires
+    cast-low
+    add-byte
+    byte-requires-2
+    cast-high
+    mul-result
+    add-result
+    returns)

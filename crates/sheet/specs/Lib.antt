@@ -1,0 +1,3 @@
+-- A sheet: its definitions, and what an accepted one is.
+pub mod Sheet
+pub mod Laws

@@ -46,7 +46,7 @@ pub fn sound(sheet: &[u8], i: u8) -> bool
 }
 
 // 1 where column i is marked unsound, else 0.
-fn one_if_unsound(sheet: &[u8], i: u8) -> u8
+pub fn one_if_unsound(sheet: &[u8], i: u8) -> u8
     ensures { λ r. ⌜ r ≡ bit (unsoundOf (now (sheet .entry)) i) ⌝ }
 {
     if mark(sheet, i) == 1 {
@@ -82,7 +82,7 @@ pub fn arrays(n: u8, m: u8) -> usize
 
 // The number at byte p, low byte first.
 fn word(sheet: &[u8], p: usize) -> u16
-    requires { ⌜ p < 17179869184 ⌝ }
+    requires { ⌜ p < 34359738368 ⌝ }
     ensures { λ r. ⌜ r ≡ wordOf (now (sheet .entry)) p ⌝ }
 {
     let low = byte(sheet, p) as u16;
@@ -97,8 +97,8 @@ fn times(a: u16, b: u16) -> usize
 }
 
 // How many values of lines stand before value q of the line to column `to` + 1, where `before` unsound columns have theirs before.
-fn values_before(n: u8, line: u16, before: u8, to: u8, q: u16) -> usize
-    ensures { λ r. ⌜ (r ≡ (before * n + to) * line + q) × (r < 4294967296) ⌝ }
+fn values_before(n: u8, line: u16, before: u8, to: u8, q: u32) -> usize
+    ensures { λ r. ⌜ (r ≡ (before * n + to) * line + q) × (r < 8589934592) ⌝ }
 {
     let lines = messages::place(before, n as u16, to as u16);
     times(lines as u16, line) + q as usize
@@ -106,7 +106,7 @@ fn values_before(n: u8, line: u16, before: u8, to: u8, q: u16) -> usize
 
 // Value q of what an unsound column sends column `to` + 1, where `before` unsound columns have their lines before, and a line has `line`
 // values.
-pub fn line_value(sheet: &[u8], line: u16, before: u8, to: u8, q: u16) -> u16
+pub fn line_value(sheet: &[u8], line: u16, before: u8, to: u8, q: u32) -> u16
     ensures { λ r. ⌜ r ≡ lineValue line (now (sheet .entry)) before (to + 1) q ⌝ }
 {
     let n = columns(sheet);

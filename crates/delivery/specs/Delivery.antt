@@ -1,0 +1,26 @@
+-- The definitions of what is delivered in a round of a wall: a sound column's messages from what it said, an unsound one's from its lines.
+-- Document 01, "A whole wall": "An unsound column's messages come from its lines: for each receiver 1 to n, the values of all rounds in
+-- order".
+use mathlib.Core.Bool.{cond}
+use mathlib.Core.List.{List}
+use Prim.Native.Nat.{ℕ, _+_, _-_, _*_}
+use Rattle.lists.specs.Lists.{rowsOf}
+use Rattle.messages.specs.Messages.{said}
+use Rattle.sheet.specs.Sheet.{columns, sound, unsoundTo, lineValue}
+use Rattle.delivery.specs.declared.Round.{Round}
+
+-- The mail of a round holds what all n columns said, by the sender's number: of each its n messages, by the receiver's, of `width` values.
+-- Value k of what column j said to column i
+unfoldable pub mailed : ℕ → ℕ → List ℕ → ℕ → ℕ → ℕ → ℕ
+mailed n width mail i j k = said mail (((j - 1) * n + (i - 1)) * width + k)
+
+-- value k of what the unsound column j says to column i in the round, which follows `offset` values of earlier rounds
+unfoldable pub lied : List ℕ → Round → ℕ → ℕ → ℕ → ℕ
+lied sheet round i j k = lineValue (round .line) sheet (unsoundTo sheet (j - 1)) i (round .offset + k)
+
+unfoldable pub sent : List ℕ → Round → List ℕ → ℕ → ℕ → ℕ → ℕ
+sent sheet round mail i j = cond (sound sheet j) (mailed (columns sheet) (round .width) mail i j) (lied sheet round i j)
+
+-- what column i gets: one message from each, by column number
+unfoldable pub inbox : List ℕ → Round → List ℕ → ℕ → List ℕ
+inbox sheet round mail i = rowsOf (sent sheet round mail i) (round .width) (columns sheet)

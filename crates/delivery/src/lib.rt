@@ -1,0 +1,87 @@
+// What is delivered to a column in one round of a wall: from a sound column what it said to this one, from an unsound column the values of its
+// line.
+ghost use mathlib.Core.Path.{_≡_};
+ghost use mathlib.Core.List.{_++_};
+ghost use Prim.Native.Nat.{_+_, _*_, _≤_, _<_};
+ghost use lib.ListN.{length, drop};
+ghost use Rattle.lists.specs.Lists.{listOf};
+ghost use Rattle.messages.specs.Messages.{refusal, unlessRefused};
+ghost use Rattle.sheet.specs.Sheet.{columns, unsoundTo};
+ghost use Rattle.delivery.specs.Delivery.{mailed as mailedOf, lied as liedOf, sent as sentOf, inbox as inboxOf};
+
+// A round: how many values a line has for each receiver, how many of them belong to earlier rounds, and the values of one message.
+pub struct Round {
+    pub line: u16,
+    pub offset: u16,
+    pub width: u16,
+}
+
+// Value k of what column j + 1 of n said to column `to` + 1.
+fn mailed(n: u8, width: u16, mail: &[u16], to: u8, j: u8, k: u16) -> u16
+    ensures { λ r. ⌜ r ≡ mailedOf n width (now (mail .entry)) (to + 1) (j + 1) k ⌝ }
+{
+    let row = messages::place(j, n as u16, to as u16);
+    let at = row * width as usize + k as usize;
+    messages::value(mail, at)
+}
+
+// The message of column j + 1 to column `to` + 1, from the mail.
+fn copy_mail(n: u8, width: u16, mail: &[u16], to: u8, j: u8, part: &mut [u16])
+    requires { ⌜ width ≤ length (now part) ⌝ }
+    ensures { λ _. ⌜ now (part .exit) ≡ listOf (mailedOf n width (now (mail .entry)) (to + 1) (j + 1)) width ++ drop width (now (part .entry)) ⌝ }
+{
+    for k in 0..width {
+        let at = k as usize;
+        part[at] = mailed(n, width, mail, to, j, k);
+    }
+}
+
+// The same of an unsound column, before which `earlier` columns are unsound, from its line.
+fn copy_line(sheet: &[u8], round: Round, to: u8, j: u8, earlier: u8, part: &mut [u16])
+    requires { ⌜ (round .width ≤ length (now part)) × (earlier ≡ unsoundTo (now sheet) j) ⌝ }
+    ensures { λ _. ⌜ now (part .exit) ≡ listOf (liedOf (now (sheet .entry)) round (to + 1) (j + 1)) (round .width) ++ drop (round .width) (now (part .entry)) ⌝ }
+{
+    let width = round.width;
+    for k in 0..width {
+        let at = k as usize;
+        part[at] = sheet::line_value(
+            sheet,
+            round.line,
+            earlier,
+            to,
+            round.offset as u32 + k as u32,
+        );
+    }
+}
+
+// The message of column j + 1 to column `to` + 1, written to the front of a part of the inbox.
+fn copy(sheet: &[u8], round: Round, mail: &[u16], to: u8, j: u8, earlier: u8, part: &mut [u16])
+    requires { ⌜ (round .width ≤ length (now part)) × (earlier ≡ unsoundTo (now sheet) j) × (j < 255) ⌝ }
+    ensures { λ _. ⌜ now (part .exit) ≡ listOf (sentOf (now (sheet .entry)) round (now (mail .entry)) (to + 1) (j + 1)) (round .width) ++ drop (round .width) (now (part .entry)) ⌝ }
+{
+    if sheet::sound(sheet, j + 1) {
+        copy_mail(sheet::columns(sheet), round.width, mail, to, j, part);
+        return;
+    }
+    copy_line(sheet, round, to, j, earlier, part);
+}
+
+// What column `to` + 1 gets in the round, one message from each column; 4 for an inbox of another length.
+pub fn deliver(sheet: &[u8], round: Round, mail: &[u16], to: u8, inbox: &mut [u16]) -> u8
+    ensures { λ r. ⌜ (r ≡ refusal 0 (columns (now (sheet .entry))) (round .width) (length (now (inbox .entry))))
+        × (now (inbox .exit) ≡ unlessRefused (refusal 0 (columns (now (sheet .entry))) (round .width) (length (now (inbox .entry)))) (inboxOf (now (sheet .entry)) round (now (mail .entry)) (to + 1)) (now (inbox .entry))) ⌝ }
+{
+    let n = sheet::columns(sheet);
+    let width = round.width;
+    let why = messages::refusal(0, n, width, inbox.len());
+    if why != 0 {
+        return why;
+    }
+    let mut earlier = 0u8;
+    for j in 0..n {
+        let at = messages::place(j, width, 0);
+        copy(sheet, round, mail, to, j, earlier, &mut inbox[at..]);
+        earlier += sheet::one_if_unsound(sheet, j + 1);
+    }
+    0
+}

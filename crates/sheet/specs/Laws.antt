@@ -1,10 +1,21 @@
 -- The laws of a sheet.
-use mathlib.Core.Path.{_≡_, ap}
+use mathlib.Core.Path.{_≡_, refl, ap, sym, _∙_}
+use mathlib.Core.Bool.{Bool, true, false, not, cond}
 use mathlib.Core.List.{List}
-use Prim.Native.Nat.{ℕ, _+_, _-_, _*_, _≤_}
+use Prim.Native.Nat.{ℕ, _+_, _-_, _*_, _≤_, _<_}
 use native.Mathlib.Nat.{mul-le-mul}
 use native.Mathlib.Omega.{arith}
-use Rattle.sheet.specs.Sheet.{columns, bytes, arrays, recordPlace, word, lineValue}
+use borrow.Author.Tests.{ltb-true, ltb-false}
+use lib.Dec.{T, eqb, ltb, eqb→eq}
+use lib.ListN.{length, getD, take, drop, length-drop}
+use lib.Seq.{length-take-le, getD-take, getD-drop}
+use Rattle.lists.specs.Lists.{all, Below}
+use Rattle.lists.specs.Tests.{is-true, passes}
+use Rattle.lists.specs.Entries.{all-each}
+use Rattle.lists.specs.Rows.{row-fits}
+use Rattle.sizes.specs.Sizes.{faults, refusal as refusalOfSizes}
+use Rattle.sizes.specs.Laws.{InRange, accepted as accepted-sizes}
+use Rattle.sheet.specs.Sheet.{columns, bytes, mark, unsoundTo, recordPlace, recordOf, arrays, word, lineValue, whole, markFits, refusalOfMarks, refusal}
 
 -- WHERE THINGS STAND
 
@@ -23,3 +34,71 @@ pub line-value : (line : ℕ) (sheet : List ℕ) (before i q : ℕ)
 unfolding lineValue
 line-value line sheet before i q =
     ap (λ (j : ℕ). word sheet (arrays (columns sheet) (bytes sheet) + 2 * ((before * columns sheet + j) * line + q))) (omega arith)
+
+-- AN ACCEPTED SHEET
+
+-- its sizes, and both arrays are there
+pub record Arrays (sheet : List ℕ) : Type 0 where
+  pub range : InRange (columns sheet) (bytes sheet)
+  pub long : arrays (columns sheet) (bytes sheet) ≤ length sheet
+
+pub record Marked (line : ℕ) (sheet : List ℕ) : Type 0 where
+  pub marks : (i : ℕ) → i < columns sheet → mark sheet (i + 1) < 2
+  pub few : unsoundTo sheet (columns sheet) ≤ faults (columns sheet)
+  pub full : length sheet ≡ whole line (columns sheet) (bytes sheet) (unsoundTo sheet (columns sheet))
+
+marked : (line : ℕ) (sheet : List ℕ) → refusalOfMarks line sheet ≡ 0 → Marked line sheet
+unfolding refusalOfMarks markFits
+marked line sheet =
+    go (all (markFits sheet) (columns sheet)) (ltb (faults (columns sheet)) (unsoundTo sheet (columns sheet)))
+    (eqb (length sheet) (whole line (columns sheet) (bytes sheet) (unsoundTo sheet (columns sheet)))) refl refl refl
+  where
+    go : (a b c : Bool) → all (markFits sheet) (columns sheet) ≡ a → ltb (faults (columns sheet)) (unsoundTo sheet (columns sheet)) ≡ b
+        → eqb (length sheet) (whole line (columns sheet) (bytes sheet) (unsoundTo sheet (columns sheet))) ≡ c → _≡_ {A = ℕ} (cond (not a) 5 (cond b 6 (cond c 0 4))) 0 → Marked line sheet
+    go false b c ea eb ec h = absurd (omega arith)
+    go true true c ea eb ec h = absurd (omega arith)
+    go true false false ea eb ec h = absurd (omega arith)
+    go true false true ea eb ec h =
+        record {
+          marks = λ i l. ltb-true _ _ (is-true _ (all-each (markFits sheet) (columns sheet) (passes _ ea) i l));
+          few = ltb-false _ _ eb;
+          full = eqb→eq _ _ (passes _ ec);
+        }
+
+pub record Accepted (line : ℕ) (sheet : List ℕ) (rows : ℕ) : Type 0 where
+  pub arrays-there : Arrays sheet
+  pub rows-are : rows ≡ columns sheet
+  pub well-marked : Marked line sheet
+
+pub accepted : (number line : ℕ) (sheet : List ℕ) (rows : ℕ) → refusal number line sheet rows ≡ 0 → Accepted line sheet rows
+unfolding refusal
+accepted number line sheet rows =
+    go (ltb (length sheet) 2) (eqb (refusalOfSizes (columns sheet) (bytes sheet) number) 0) (ltb (length sheet) (arrays (columns sheet) (bytes sheet))) (eqb rows (columns sheet)) refl refl refl refl
+  where
+    why : ℕ
+    why = refusalOfSizes (columns sheet) (bytes sheet) number
+
+    go : (a b c d : Bool) → ltb (length sheet) 2 ≡ a → eqb (refusalOfSizes (columns sheet) (bytes sheet) number) 0 ≡ b → ltb (length sheet) (arrays (columns sheet) (bytes sheet)) ≡ c → eqb rows (columns sheet) ≡ d
+        → _≡_ {A = ℕ} (cond a 4 (cond (not b) (refusalOfSizes (columns sheet) (bytes sheet) number) (cond c 4 (cond (not d) 4 (refusalOfMarks line sheet))))) 0 → Accepted line sheet rows
+    go true b c d ea eb ec ed h = absurd (omega arith)
+    go false false c d ea eb ec ed h = let q : T (eqb (refusalOfSizes (columns sheet) (bytes sheet) number) 0) = rw h tt in absurd (rw eb at q)
+    go false true true d ea eb ec ed h = absurd (omega arith)
+    go false true false false ea eb ec ed h = absurd (omega arith)
+    go false true false true ea eb ec ed h =
+        record {
+          arrays-there = record { range = accepted-sizes _ _ _ (eqb→eq _ _ (passes _ eb)) .range; long = ltb-false _ _ ec };
+          rows-are = eqb→eq _ _ (passes _ ed);
+          well-marked = marked line sheet h;
+        }
+
+-- its records have m bytes
+module _ (sheet : List ℕ) (there : Arrays sheet) (i : ℕ) (l : i < columns sheet) where
+  pub record-fits : 2 + columns sheet + i * bytes sheet + bytes sheet ≤ length sheet
+  unfolding arrays
+  record-fits = omega (arith, there .long, row-fits (bytes sheet) i (columns sheet) l)
+
+  pub record-length : length (recordOf sheet (i + 1)) ≡ bytes sheet
+  unfolding recordOf
+  record-length =
+      length-take-le (bytes sheet) (drop (recordPlace (columns sheet) (bytes sheet) (i + 1)) sheet)
+      (omega (arith, length-drop (recordPlace (columns sheet) (bytes sheet) (i + 1)) sheet, record-place (columns sheet) (bytes sheet) i, record-fits))

@@ -75,13 +75,13 @@ module _ (n m own : ℕ) (bytes : List ℕ) (inbox : ℕ → List ℕ) where
     rest false q k = turns out inbox (suc q) k
     rest true q k = Listens (inbox (suc q)) ∷ turns out inbox (suc (suc q)) k
 
-    speaks-in : (q : ℕ) (o : List ℕ) → q < rounds n → o ≡ out (suc q)
+    pub speaks-in : (q : ℕ) (o : List ℕ) → q < rounds n → o ≡ out (suc q)
         → (refusalAt (at q) (Speaks o) ≡ 0) × (after (at q) (Speaks o) ≡ state true q) × (written (at q) o ≡ outgoing (at q) (suc q))
     speaks-in q o l e =
         let (is, stage) = course-is n m own bytes inbox q l in
         spoke (at q) (suc q) (course-fits n m own bytes inbox (A .accepted) (A .full) q (omega arith)) o stage (rw (is .n-is, is .m-is) (ap length e ∙ A .out-length (suc q) (omega arith) l))
 
-    listens-in : (q : ℕ) (x : List ℕ) → q < rounds n → x ≡ inbox (suc q) → (refusalAt (state true q) (Listens x) ≡ 0) × (after (state true q) (Listens x) ≡ at (suc q))
+    pub listens-in : (q : ℕ) (x : List ℕ) → q < rounds n → x ≡ inbox (suc q) → (refusalAt (state true q) (Listens x) ≡ 0) × (after (state true q) (Listens x) ≡ at (suc q))
     unfolding course withStage
     listens-in q x l e =
         let (is, stage) = course-is n m own bytes inbox q l in

@@ -3,12 +3,12 @@ use mathlib.Core.Path.{_≡_, refl, ap₂, sym, _∙_}
 use mathlib.Core.Bool.{Bool, true, false, _&&_}
 use mathlib.Core.List.{List, [], _∷_, _++_, append-assoc, append-nil}
 use mathlib.Core.Logic.{⊎-elim}
-use Prim.Native.Nat.{ℕ, zero, suc, _+_, _≤_, _<_}
-use native.Mathlib.Nat.{eq-or-lt-of-le, le-of-suc-le-suc, le-refl, le-trans, le-suc}
+use Prim.Native.Nat.{ℕ, zero, suc, _+_, _*_, _≤_, _<_}
+use native.Mathlib.Nat.{eq-or-lt-of-le, le-of-suc-le-suc, le-refl, le-trans, le-suc, suc-mul}
 use native.Mathlib.Numerals.{add-one}
 use native.Mathlib.Decide.{decLt}
 use native.Mathlib.Omega.{arith}
-use lib.ListN.{length, drop, getD, set, length-append, drop-of-length-le, List·getD-append, List·getD-eq-default}
+use lib.ListN.{length, take, drop, getD, set, length-append, drop-of-length-le, List·getD-append, List·getD-eq-default}
 use lib.Seq.{drop-cons, set-at, getD-append-seam, ext-getD}
 use lib.Dec.{T, eqb, eqb→eq, eqb-refl}
 use Rattle.lists.specs.Lists.{all, sum, Below, same, listOf}
@@ -63,6 +63,12 @@ pub sum-same : (f g : ℕ → ℕ) (n : ℕ) → ((i : ℕ) → 1 ≤ i → i �
 unfolding sum
 sum-same f g zero h = refl
 sum-same f g (suc n) h = ap₂ {C = ℕ} (λ a b. a + b) (sum-same f g n (λ i l u. h i l (le-trans u (le-suc n)))) (h (suc n) (omega arith) (le-refl (suc n)))
+
+-- of small summands
+pub sum-le : (f : ℕ → ℕ) (b n : ℕ) → ((i : ℕ) → f i ≤ b) → sum f n ≤ n * b
+unfolding sum
+sum-le f b zero h = omega arith
+sum-le f b (suc n) h = omega (arith, suc-mul n b, sum-le f b n h, h (suc n))
 
 -- EQUAL LISTS
 
@@ -132,3 +138,10 @@ below-listOf b f n p h i = go (decLt i n)
     go : Dec (i < n) → getD (listOf f n) i 0 < b
     go (yes l) = rw (getD-listOf f n i 0 l) (h i)
     go (no l) = rw (List·getD-eq-default (listOf f n) 0 {n = i} (omega (arith, length-listOf f n))) p
+
+-- and the front of one
+pub below-take : (b k : ℕ) (l : List ℕ) → 0 < b → Below b l → Below b (take k l)
+below-take b zero l p h i = p
+below-take b (suc k) [] p h i = p
+below-take b (suc k) (x ∷ l) p h zero = h 0
+below-take b (suc k) (x ∷ l) p h (suc i) = below-take b k l p (λ j. h (suc j)) i

@@ -34,6 +34,10 @@ pub rounds-are : (n : ℕ) → rounds n ≡ 3 * faults n + 8
 unfolding rounds
 rounds-are n = refl
 
+pub line-le : (n m : ℕ) → line n m ≤ 4 * m + 3 * n + 5
+unfolding line
+line-le n m = omega (arith, blocks-le n m, faults-le n)
+
 -- THE SIZES OF A WALL
 
 -- n columns and records of m bytes

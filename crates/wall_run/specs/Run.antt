@@ -119,9 +119,12 @@ refusal sheet rows = refusalOfSheet 1 (line (columns sheet) (bytes sheet)) sheet
 unfoldable pub rowAfter : List ℕ → List Entry → List Entry
 rowAfter sheet row = cond (eqb (refusal sheet (length row)) 0) (entries sheet) row
 
--- what a run comes to, for a row of `rows` entries: the entries in 31 places, zeros past n; none where it is refused
+-- what a run comes to, for a row of `rows` entries: the entries in 31 places, zeros past n; zeros alone where it is refused
+unfoldable pub inPlaces : List ℕ → List Column → List Entry
+inPlaces sheet wall = listOf (entryIn sheet wall) (columns sheet) ++ drop (columns sheet) (replicate 31 (markOnly 0))
+
 unfoldable pub settled : List ℕ → Outcomes
-settled sheet = record { refusal = 0; count = columns sheet; entries = entries sheet ++ drop (columns sheet) (replicate 31 (markOnly 0)) }
+settled sheet = record { refusal = 0; count = columns sheet; entries = inPlaces sheet (ended sheet) }
 
 unfoldable pub refused : ℕ → Outcomes
 refused why = record { refusal = why; count = 0; entries = replicate 31 (markOnly 0) }

@@ -1,4 +1,14 @@
 // A whole wall: n columns driven by the calls of `column` through all rounds, the unsound ones speaking from their lines of the sheet.
+mod entries;
+mod listening;
+mod rounds;
+mod row;
+mod speaking;
+mod start;
+
+ghost use mathlib.Core.Path.{_≡_};
+ghost use lib.ListN.{length};
+ghost use Rattle.wall_run.specs.Run.{refusal as refusalOf, rowAfter, outcomes};
 
 // What one column came to: its mark, the grade with which it left dispersal, its last vote, whether it ended on a record, and the record's
 // bytes, zeros past m and where there is none. The entry of an unsound column is its mark and zeros.
@@ -16,4 +26,46 @@ pub struct Outcomes {
     pub refusal: u8,
     pub count: usize,
     pub entries: [Entry; 31],
+}
+
+// The refusal of a sheet, for a row of `rows` entries: 1, 2, 4, 5, 6 as document 01 numbers and orders them, or 0 for none.
+pub fn refusal(sheet: &[u8], rows: usize) -> u8
+    ensures { λ r. ⌜ r ≡ refusalOf (now (sheet .entry)) rows ⌝ }
+{
+    let n = sheet::columns(sheet);
+    let m = sheet::bytes(sheet);
+    sheet::refusal(1, sizes::line(n, m) as u16, sheet, rows)
+}
+
+// Runs the wall that a sheet describes, for a row of `rows` entries, and answers in numbers.
+pub fn outcomes_of(sheet: &[u8], rows: usize) -> Outcomes
+    ensures { λ r. ⌜ r ≡ outcomes (now (sheet .entry)) rows ⌝ }
+{
+    let why = refusal(sheet, rows);
+    if why != 0 {
+        let none = entries::mark_only(0);
+        let entries = [none; 31];
+        return Outcomes {
+            refusal: why,
+            count: 0,
+            entries: entries,
+        };
+    }
+    let wall = rounds::ended(sheet);
+    let entries = entries::all(sheet, wall);
+    Outcomes {
+        refusal: 0,
+        count: sheet::columns(sheet) as usize,
+        entries: entries,
+    }
+}
+
+// Runs the wall that a sheet describes and writes each column's entry to the row, which must have as many places as the wall has columns.
+// Answers 0, or the number of the refusal; then no entry is written.
+pub fn run<'a>(sheet: &'a [u8], row: &'a mut [Entry]) -> u8
+    ensures { λ r. ⌜ (r ≡ refusalOf (now (sheet .entry)) (length (now (row .entry)))) × (now (row .exit) ≡ rowAfter (now (sheet .entry)) (now (row .entry))) ⌝ }
+{
+    let o = outcomes_of(sheet, row.len());
+    row::fill(row, o);
+    o.refusal
 }

@@ -1,0 +1,19 @@
+-- `entries::sound_entry` meets its contract.
+use borrow.Author.Needs.{needs}
+use mathlib.Core.Path.{refl}
+use Rattle.wall_run.specs.Run.{soundEntry}
+use Rattle.wall_run.proofs.entries.sound_entry.Statement.{statement}
+use Rattle.wall_run.proofs.entries.sound_entry.Tie as tie
+
+outcome-requires : tie.Need-outcome-requires
+outcome-requires c κs = search needs
+
+has-record-requires : tie.Need-has-record-requires
+has-record-requires c κs = search needs
+
+returns : tie.Need-returns
+unfolding soundEntry
+returns c = rw (c .has-record .ensures, c .before .before .outcome .ensures) refl
+
+pub sound-entry-spec : {M : Type 1} → statement M
+sound-entry-spec = tie.close (tie.spec outcome-requires has-record-requires returns)

@@ -1,0 +1,38 @@
+// The second half of a round: every sound column listens to what the mail and the lines of the unsound columns have for it.
+use column::Column;
+use delivery::Round;
+ghost use mathlib.Core.Path.{_≡_};
+ghost use Prim.Native.Nat.{_+_, _*_, _≤_, _<_};
+ghost use lib.ListN.{length};
+ghost use Rattle.sheet.specs.Sheet.{columns};
+ghost use Rattle.wall_run.specs.Run.{each, heard};
+
+// Column i + 1 listens, if it is sound.
+fn hear(sheet: &[u8], round: Round, mail: &[u16], i: u8, column: Column, inbox: &mut [u16]) -> Column
+    requires { ⌜ (i < 255) × (length (now inbox) ≡ columns (now sheet) * (round .width)) ⌝ }
+    ensures { λ r. ⌜ r ≡ heard (now (sheet .entry)) round (now (mail .entry)) (i + 1) column ⌝ }
+{
+    if !sheet::sound(sheet, i + 1) {
+        return column;
+    }
+    delivery::deliver(sheet, round, mail, i, inbox);
+    let answered = column::listen(column, inbox);
+    answered.column
+}
+
+// All columns listen.
+pub(super) fn listen_all(sheet: &[u8], round: Round, mail: &[u16], wall: [Column; 31]) -> [Column; 31]
+    requires { ⌜ (columns (now sheet) ≤ 31) × (columns (now sheet) * (round .width) ≤ 2048) ⌝ }
+    ensures { λ r. ⌜ r ≡ each (columns (now (sheet .entry))) (heard (now (sheet .entry)) round (now (mail .entry))) wall ⌝ }
+{
+    let n = sheet::columns(sheet);
+    let len = messages::place(n, round.width, 0);
+    let mut inbox = [65535u16; 2048];
+    let mut next = wall;
+    for i in 0..n {
+        let at = i as usize;
+        let column = wall[at];
+        next[at] = hear(sheet, round, mail, i, column, &mut inbox[..len]);
+    }
+    next
+}

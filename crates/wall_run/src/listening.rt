@@ -8,7 +8,14 @@ ghost use Rattle.sheet.specs.Sheet.{columns};
 ghost use Rattle.wall_run.specs.Run.{each, heard};
 
 // Column i + 1 listens, if it is sound.
-fn hear(sheet: &[u8], round: Round, mail: &[u16], i: u8, column: Column, inbox: &mut [u16]) -> Column
+fn hear(
+    sheet: &[u8],
+    round: Round,
+    mail: &[u16],
+    i: u8,
+    column: Column,
+    inbox: &mut [u16],
+) -> Column
     requires { ⌜ (i < 255) × (length (now inbox) ≡ columns (now sheet) * (round .width)) ⌝ }
     ensures { λ r. ⌜ r ≡ heard (now (sheet .entry)) round (now (mail .entry)) (i + 1) column ⌝ }
 {
@@ -21,7 +28,12 @@ fn hear(sheet: &[u8], round: Round, mail: &[u16], i: u8, column: Column, inbox: 
 }
 
 // All columns listen.
-pub(super) fn listen_all(sheet: &[u8], round: Round, mail: &[u16], wall: [Column; 31]) -> [Column; 31]
+pub(super) fn listen_all(
+    sheet: &[u8],
+    round: Round,
+    mail: &[u16],
+    wall: [Column; 31],
+) -> [Column; 31]
     requires { ⌜ (columns (now sheet) ≤ 31) × (columns (now sheet) * (round .width) ≤ 2048) ⌝ }
     ensures { λ r. ⌜ r ≡ each (columns (now (sheet .entry))) (heard (now (sheet .entry)) round (now (mail .entry))) wall ⌝ }
 {

@@ -36,7 +36,12 @@ fn say(sheet: &[u8], width: u16, j: u8, column: Column, part: &mut [u16]) -> Col
 }
 
 // All columns speak; the mail was blank.
-pub(super) fn speak_all(sheet: &[u8], width: u16, wall: [Column; 31], mail: &mut [u16]) -> [Column; 31]
+pub(super) fn speak_all(
+    sheet: &[u8],
+    width: u16,
+    wall: [Column; 31],
+    mail: &mut [u16],
+) -> [Column; 31]
     requires { ⌜ Space (columns (now sheet)) width (now mail) ⌝ }
     ensures { λ r. ⌜ (r ≡ each (columns (now (sheet .entry))) (spoken (now (sheet .entry)) width) wall) × (now (mail .exit) ≡ mailOf (now (sheet .entry)) width wall) ⌝ }
 {

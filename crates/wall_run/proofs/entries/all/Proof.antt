@@ -8,7 +8,6 @@ use Rattle.wall_run.specs.Run.{entryIn, inPlaces}
 use mathlib.Core.Path.{ap, ap₂, _∙_}
 use mathlib.Core.List.{List, _++_}
 use Prim.Native.Nat.{_+_, _-_}
-use borrow.Kind.Array.{good-length}
 use lib.ListN.{drop, replicate, length-replicate}
 use Rattle.lists.specs.Lists.{listOf}
 use Rattle.lists.specs.Entries.{getD-within}
@@ -59,7 +58,7 @@ loop-less c = omega arith
 
 loop-again : tie.Need-loop-again Inv-loop μ-loop
 unfolding entryIn
-loop-again c = let a = c .before .before .before .before .before .before .before .args in let i = c .before .before .before .loop .i in filled-more _ _ _ _ _ _ (c .before .before .before .loop .inv) (omega arith) (c .entry .ensures ∙ ap (entryOf (a .sheet .now) (i + 1)) (getD-within (a .t2) i _ noColumn (omega (arith, c .before .before .before .before .before .columns .ensures, c .before .before .before .before .before .before .before .pre, good-length _ _ (a .t2) _ (c .before .before .before .before .before .before .before .good .1 .0)))))
+loop-again c = let a = c .before .before .before .before .before .before .before .args in let i = c .before .before .before .loop .i in filled-more _ _ _ _ _ _ (c .before .before .before .loop .inv) (omega arith) (c .entry .ensures ∙ ap (entryOf (a .sheet .now) (i + 1)) (getD-within (a .t2) i _ noColumn (omega (arith, c .before .before .before .before .before .columns .ensures, c .before .before .before .before .before .before .before .pre, c .before .before .before .before .before .before .before .good .1 .0 .1 .0 .1))))
 
 returns : tie.Need-returns Inv-loop μ-loop
 unfolding inPlaces

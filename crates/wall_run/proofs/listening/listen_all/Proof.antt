@@ -1,76 +1,71 @@
+-- `listening::listen_all` meets its contract.
+use mathlib.Core.Path.{_≡_, sym, ap, _∙_}
+use Prim.Native.Nat.{ℕ, _+_, _-_, _*_}
+use native.Mathlib.Nat.{add-zero}
+use native.Mathlib.Omega.{arith}
+use lib.ListN.{length, length-replicate}
+use lib.Seq.{length-take-le}
+use Rattle.lists.specs.Entries.{getD-within}
+use Rattle.lists.specs.Loops.{Filled, filled-none, filled-more, filled-part}
+use Rattle.agreement.specs.Calls.{noColumn}
+use Rattle.sheet.specs.Sheet.{columns}
+use Rattle.wall_run.specs.Run.{turned, each, heard}
+use lib.Seq.{length-take-le, length-front}
 use Rattle.wall_run.proofs.listening.listen_all.Statement.{statement}
 use Rattle.wall_run.proofs.listening.listen_all.Tie as tie
-use Rattle.wall_run.proofs.listening.listen_all.Reads as reads
-use Rattle.wall_run.proofs.listening.listen_all.Lts as lts
-use Rattle.messages.proofs.place.Reads as place-reads
-use Rattle.sheet.proofs.columns.Reads as columns-reads
-use Rattle.wall_run.proofs.listening.hear.Reads as hear-reads
 
 abbrev Inv-loop : tie.InvT-loop
-Inv-loop sheet round mail wall n len inbox₀ next₀ i₀ inbox next i = ?
+Inv-loop sheet round mail wall n len inbox₀ next₀ i₀ inbox next i = Filled (turned (heard sheet round mail) wall) (columns sheet) next₀ next i × (length inbox ≡ 2048)
 
 abbrev μ-loop : tie.MeasureT-loop
-μ-loop sheet round mail wall n len inbox₀ next₀ i₀ inbox next i = ?
+μ-loop sheet round mail wall n len inbox₀ next₀ i₀ inbox next i = n - i
 
--- src/listening.rt:28:9
 columns-requires : tie.Need-columns-requires Inv-loop μ-loop
-columns-requires c κs = ?
+columns-requires c κs = tt
 
--- src/listening.rt:29:9
 place-requires : tie.Need-place-requires Inv-loop μ-loop
-place-requires c κs = ?
+place-requires c κs = tt
 
--- src/listening.rt:32:5
 loop-holds : tie.Need-loop-holds Inv-loop μ-loop
-loop-holds c = ?
+loop-holds c = (filled-none _ _ _ (omega (arith, c .before .before .before .before .pre .0, c .before .before .before .before .good .1 .1 .1 .0 .1 .0 .1)), length-replicate {A = ℕ} 2048 65535)
 
--- src/listening.rt:33:18
 cast-at : tie.Need-cast-at Inv-loop μ-loop
-cast-at c = ?
+cast-at c = omega arith
 
--- src/listening.rt:34:22
 mul-column : tie.Need-mul-column Inv-loop μ-loop
-mul-column c = ?
+mul-column c = omega (arith, c .before .before .before .columns .ensures, c .before .before .before .before .before .before .pre .0)
 
--- src/listening.rt:34:22
 array-copy-out-column : tie.Need-array-copy-out-column Inv-loop μ-loop
-array-copy-out-column c = ?
+array-copy-out-column c = omega (arith, c .before .before .before .columns .ensures, c .before .before .before .before .before .before .pre .0)
 
--- src/listening.rt:35:56
 array-borrow-prefix-inbox : tie.Need-array-borrow-prefix-inbox Inv-loop μ-loop
-array-borrow-prefix-inbox c = ?
+array-borrow-prefix-inbox c = let a = c .before .before .before .before .before .before .before .args in let len : c .before .before .before .place .result ≡ columns (a .sheet .now) * a .round .width = c .before .before .before .place .ensures ∙ add-zero _ ∙ ap (λ (n : ℕ). n * a .round .width) (c .before .before .before .before .columns .ensures) in omega (arith, c .before .before .before .before .before .before .before .pre .1)
 
--- src/listening.rt:35:56
 slice-aggregate-hear : tie.Need-slice-aggregate-hear Inv-loop μ-loop
-slice-aggregate-hear c = ?
+slice-aggregate-hear c = let a = c .before .before .before .before .before .before .before .before .args in let len : c .before .before .before .before .place .result ≡ columns (a .sheet .now) * a .round .width = c .before .before .before .before .place .ensures ∙ add-zero _ ∙ ap (λ (n : ℕ). n * a .round .width) (c .before .before .before .before .before .columns .ensures) in sym (length-take-le _ _ (omega (arith, c .before .before .before .before .before .before .before .before .pre .1, c .before .before .before .loop .inv .1)))
 
--- src/listening.rt:35:20
 hear-requires : tie.Need-hear-requires Inv-loop μ-loop
-hear-requires c κs = ?
+hear-requires c κs = let a = c .before .before .before .before .before .before .before .before .args in let len : c .before .before .before .before .place .result ≡ columns (a .sheet .now) * a .round .width = c .before .before .before .before .place .ensures ∙ add-zero _ ∙ ap (λ (n : ℕ). n * a .round .width) (c .before .before .before .before .before .columns .ensures) in (omega (arith, c .before .before .before .before .before .columns .ensures, c .before .before .before .before .before .before .before .before .pre .0), length-take-le _ _ (omega (arith, c .before .before .before .before .before .before .before .before .pre .1, c .before .before .before .loop .inv .1)) ∙ len)
 
--- src/listening.rt:35:9
 mul-next : tie.Need-mul-next Inv-loop μ-loop
-mul-next c = ?
+mul-next c = omega (arith, c .before .before .before .before .before .before .before .columns .ensures, c .before .before .before .before .before .before .before .before .before .before .pre .0)
 
--- src/listening.rt:35:9
 array-set-from-next : tie.Need-array-set-from-next Inv-loop μ-loop
-array-set-from-next c = ?
+array-set-from-next c = omega (arith, c .before .before .before .before .before .before .before .columns .ensures, c .before .before .before .before .before .before .before .before .before .before .pre .0)
 
--- src/listening.rt:32:9
 add-i : tie.Need-add-i Inv-loop μ-loop
-add-i c = ?
+add-i c = omega arith
 
--- src/listening.rt:32:5
 loop-less : tie.Need-loop-less Inv-loop μ-loop
-loop-less c = ?
+loop-less c = omega arith
 
--- src/listening.rt:32:5
 loop-again : tie.Need-loop-again Inv-loop μ-loop
-loop-again c = ?
+unfolding turned
+loop-again c = let a = c .before .before .before .before .before .before .before .before .before .before .args in let i = c .before .before .before .before .before .loop .i in (filled-more _ _ _ _ _ _ (c .before .before .before .before .before .loop .inv .0) (omega (arith, c .before .before .before .before .before .before .before .columns .ensures)) (c .before .hear .ensures ∙ ap (heard (a .sheet .now) (a .round) (a .mail .now) (i + 1)) (getD-within (a .t4) i _ noColumn (omega (arith, c .before .before .before .before .before .before .before .columns .ensures, c .before .before .before .before .before .before .before .before .before .before .pre .0, c .before .before .before .before .before .before .before .before .before .before .good .1 .1 .1 .0 .1 .0 .1)))), length-front (c .before .before .before .before .before .loop .inbox) (c .before .hear .last .1 .1 .1 .1 .1 .0) (c .before .before .before .before .before .before .place .result) (c .before .hear .kept .1 .1 .1 .1 .1 .0) ∙ c .before .before .before .before .before .loop .inv .1)
 
--- src/listening.rt:24:1
 returns : tie.Need-returns Inv-loop μ-loop
-returns c = ?
+unfolding each
+returns c = filled-part _ _ _ _ _ (c .before .loop .inv .0) (omega (arith, c .before .before .before .columns .ensures))
 
 pub listen-all-spec : {M : Type 1} → statement M
 listen-all-spec =

@@ -1,96 +1,93 @@
+-- `speaking::speak_all` meets its contract.
+use mathlib.Core.Path.{_≡_, sym, ap, _∙_}
+use Prim.Native.Nat.{ℕ, _+_, _-_, _*_}
+use native.Mathlib.Nat.{add-zero, mul-le-mul}
+use native.Mathlib.Omega.{arith}
+use lib.ListN.{length, length-replicate}
+use Rattle.field.specs.Field.{blank}
+use Rattle.lists.specs.Entries.{getD-within}
+use Rattle.lists.specs.Loops.{Filled, filled-none, filled-more, filled-part, Rowed, rowed-none, rowed-fits, rowed-more, rowed-room, rowed-done}
+use Rattle.agreement.specs.Calls.{noColumn}
+use Rattle.sheet.specs.Sheet.{columns}
+use Rattle.wall_run.specs.Run.{columnAt, turned, each, spoken, wordsOf, mail}
+use Rattle.wall_run.specs.Speaking.{blank-part}
+use mathlib.Core.List.{_++_}
+use Prim.Native.Nat.{ℕ, _+_, _-_, _*_, _<_}
+use lib.ListN.{length, getD, take, drop, length-replicate}
+use Rattle.lists.specs.Lists.{listOf}
+use Rattle.messages.specs.Messages.{said}
+use Rattle.agreement.specs.declared.Column.{Column}
+use Rattle.wall_run.specs.Run.{columnAt, turned, each, spoken, words, wordsOf, mail}
 use Rattle.wall_run.proofs.speaking.speak_all.Statement.{statement}
 use Rattle.wall_run.proofs.speaking.speak_all.Tie as tie
-use Rattle.wall_run.proofs.speaking.speak_all.Reads as reads
-use Rattle.wall_run.proofs.speaking.speak_all.Lts as lts
-use Rattle.messages.proofs.place.Reads as place-reads
-use Rattle.sheet.proofs.columns.Reads as columns-reads
-use Rattle.wall_run.proofs.speaking.say.Reads as say-reads
 
 abbrev Inv-loop : tie.InvT-loop
-Inv-loop sheet width mail₀ wall n size next₀ j₀ mail next j = ?
+Inv-loop sheet width mail₀ wall n size next₀ j₀ mail next j = Filled (turned (spoken sheet width) wall) (columns sheet) next₀ next j × Rowed (wordsOf sheet width wall) (columns sheet * width) (columns sheet) mail₀ mail j
 
 abbrev μ-loop : tie.MeasureT-loop
-μ-loop sheet width mail₀ wall n size next₀ j₀ mail next j = ?
+μ-loop sheet width mail₀ wall n size next₀ j₀ mail next j = n - j
 
--- src/speaking.rt:43:9
 columns-requires : tie.Need-columns-requires Inv-loop μ-loop
-columns-requires c κs = ?
+columns-requires c κs = tt
 
--- src/speaking.rt:44:16
 place-requires : tie.Need-place-requires Inv-loop μ-loop
-place-requires c κs = ?
+place-requires c κs = tt
 
--- src/speaking.rt:44:16
 cast-size : tie.Need-cast-size Inv-loop μ-loop
-cast-size c = ?
+cast-size c = let a = c .before .before .before .before .args in let len : c .place .result ≡ columns (a .sheet .now) * a .width = c .place .ensures ∙ add-zero _ ∙ ap (λ (n : ℕ). n * a .width) (c .before .columns .ensures) in omega (arith, mul-le-mul {n₁ = columns (a .sheet .now)} {m₁ = a .width} {n₂ = 31} {m₂ = 65} (c .before .before .before .before .pre .few) (c .before .before .before .before .pre .narrow))
 
--- src/speaking.rt:46:5
 loop-holds : tie.Need-loop-holds Inv-loop μ-loop
-loop-holds c = ?
+loop-holds c = let s = c .before .before .before .before .pre in (filled-none _ _ _ (omega (arith, s .few, c .before .before .before .before .good .1 .1 .0 .1 .0 .1)), rowed-none _ _ _ _ (sym (ap length (s .blank-all) ∙ length-replicate _ blank)))
 
--- src/speaking.rt:47:17
 cast-i : tie.Need-cast-i Inv-loop μ-loop
-cast-i c = ?
+cast-i c = omega arith
 
--- src/speaking.rt:48:22
 mul-column : tie.Need-mul-column Inv-loop μ-loop
-mul-column c = ?
+mul-column c = omega (arith, c .before .before .before .columns .ensures, c .before .before .before .before .before .before .pre .few)
 
--- src/speaking.rt:48:22
 array-copy-out-column : tie.Need-array-copy-out-column Inv-loop μ-loop
-array-copy-out-column c = ?
+array-copy-out-column c = omega (arith, c .before .before .before .columns .ensures, c .before .before .before .before .before .before .pre .few)
 
--- src/speaking.rt:49:13
 place-requires-2 : tie.Need-place-requires-2 Inv-loop μ-loop
-place-requires-2 c κs = ?
+place-requires-2 c κs = tt
 
--- src/speaking.rt:50:48
 mul-say : tie.Need-mul-say Inv-loop μ-loop
-mul-say c = ?
+mul-say c = let a = c .before .before .before .before .before .before .before .before .args in let len : c .before .before .before .before .place .result ≡ columns (a .sheet .now) * a .width = c .before .before .before .before .place .ensures ∙ add-zero _ ∙ ap (λ (n : ℕ). n * a .width) (c .before .before .before .before .before .columns .ensures) in let at = (c .place2 .ensures ∙ add-zero _ ∙ ap (λ (s : ℕ). c .before .before .before .loop .j * s) len) in omega (arith, rowed-fits _ _ _ _ _ _ (c .before .before .before .loop .inv .1) (omega (arith, c .before .before .before .before .before .columns .ensures)), c .before .before .before .before .before .before .before .before .good)
 
--- src/speaking.rt:50:48
 sub-say : tie.Need-sub-say Inv-loop μ-loop
-sub-say c = ?
+sub-say c = let a = c .before .before .before .before .before .before .before .before .args in let len : c .before .before .before .before .place .result ≡ columns (a .sheet .now) * a .width = c .before .before .before .before .place .ensures ∙ add-zero _ ∙ ap (λ (n : ℕ). n * a .width) (c .before .before .before .before .before .columns .ensures) in let at = (c .place2 .ensures ∙ add-zero _ ∙ ap (λ (s : ℕ). c .before .before .before .loop .j * s) len) in omega (arith, rowed-fits _ _ _ _ _ _ (c .before .before .before .loop .inv .1) (omega (arith, c .before .before .before .before .before .columns .ensures)))
 
--- src/speaking.rt:50:48
 part-say-start : tie.Need-part-say-start Inv-loop μ-loop
-part-say-start c = ?
+part-say-start c = let a = c .before .before .before .before .before .before .before .before .args in let len : c .before .before .before .before .place .result ≡ columns (a .sheet .now) * a .width = c .before .before .before .before .place .ensures ∙ add-zero _ ∙ ap (λ (n : ℕ). n * a .width) (c .before .before .before .before .before .columns .ensures) in let at = (c .place2 .ensures ∙ add-zero _ ∙ ap (λ (s : ℕ). c .before .before .before .loop .j * s) len) in omega (arith, rowed-fits _ _ _ _ _ _ (c .before .before .before .loop .inv .1) (omega (arith, c .before .before .before .before .before .columns .ensures)))
 
--- src/speaking.rt:50:48
 part-say-end : tie.Need-part-say-end Inv-loop μ-loop
-part-say-end c = ?
+part-say-end c = omega arith
 
--- src/speaking.rt:50:19
 say-requires : tie.Need-say-requires Inv-loop μ-loop
-say-requires c κs = ?
+say-requires c κs = let a = c .before .before .before .before .before .before .before .before .before .args in let len : c .before .before .before .before .before .place .result ≡ columns (a .sheet .now) * a .width = c .before .before .before .before .before .place .ensures ∙ add-zero _ ∙ ap (λ (n : ℕ). n * a .width) (c .before .before .before .before .before .before .columns .ensures) in let at = (c .before .place2 .ensures ∙ add-zero _ ∙ ap (λ (s : ℕ). c .before .before .before .before .loop .j * s) len) in let inside : c .before .before .before .before .loop .j < columns (a .sheet .now) = omega (arith, c .before .before .before .before .before .before .columns .ensures) in (omega (arith, c .before .before .before .before .before .before .columns .ensures, c .before .before .before .before .before .before .before .before .before .pre .few), rowed-room _ _ _ _ _ _ _ (c .before .before .before .before .loop .inv .1) inside at, blank-part _ _ _ _ _ _ _ (c .before .before .before .before .before .before .before .before .before .pre .blank-all) (c .before .before .before .before .loop .inv .1) inside at)
 
--- src/speaking.rt:50:9
 mul-next : tie.Need-mul-next Inv-loop μ-loop
-mul-next c = ?
+mul-next c = omega (arith, c .before .before .before .before .before .before .before .before .before .columns .ensures, c .before .before .before .before .before .before .before .before .before .before .before .before .pre .few)
 
--- src/speaking.rt:50:9
 array-set-from-next : tie.Need-array-set-from-next Inv-loop μ-loop
-array-set-from-next c = ?
+array-set-from-next c = omega (arith, c .before .before .before .before .before .before .before .before .before .columns .ensures, c .before .before .before .before .before .before .before .before .before .before .before .before .pre .few)
 
--- src/speaking.rt:46:9
 add-j : tie.Need-add-j Inv-loop μ-loop
-add-j c = ?
+add-j c = omega arith
 
--- src/speaking.rt:46:5
 loop-less : tie.Need-loop-less Inv-loop μ-loop
-loop-less c = ?
+loop-less c = omega arith
 
--- src/speaking.rt:46:5
 loop-again : tie.Need-loop-again Inv-loop μ-loop
-loop-again c = ?
+unfolding turned wordsOf columnAt
+loop-again c = let a = c .before .before .before .before .before .before .before .before .before .before .before .before .args in let len : c .before .before .before .before .before .before .before .before .place .result ≡ columns (a .sheet .now) * a .width = c .before .before .before .before .before .before .before .before .place .ensures ∙ add-zero _ ∙ ap (λ (n : ℕ). n * a .width) (c .before .before .before .before .before .before .before .before .before .columns .ensures) in let at = (c .before .before .before .before .place2 .ensures ∙ add-zero _ ∙ ap (λ (s : ℕ). c .before .before .before .before .before .before .before .loop .j * s) len) in let j = c .before .before .before .before .before .before .before .loop .j in let inside : j < columns (a .sheet .now) = omega (arith, c .before .before .before .before .before .before .before .before .before .columns .ensures) in let read = getD-within (a .t3) j _ noColumn (omega (arith, c .before .before .before .before .before .before .before .before .before .before .before .before .pre .few, c .before .before .before .before .before .before .before .before .before .before .before .before .good .1 .1 .0 .1 .0 .1)) in let W = columns (a .sheet .now) * a .width in let part = take (length (c .before .before .before .before .before .before .before .loop .mail) - c .before .before .before .before .place2 .result) (drop (c .before .before .before .before .place2 .result) (c .before .before .before .before .before .before .before .loop .mail)) in (filled-more _ _ _ _ _ _ (c .before .before .before .before .before .before .before .loop .inv .0) inside (c .before .before .say .ensures .0 ∙ ap (spoken (a .sheet .now) (a .width) (j + 1)) read), rowed-more _ _ _ _ _ _ _ _ (c .before .before .before .before .before .before .before .loop .inv .1) inside at (c .before .before .say .ensures .1 ∙ ap (λ (x : Column). listOf (said (words (a .sheet .now) (a .width) (j + 1) x)) W ++ drop W part) (read ∙ ap (λ (k : ℕ). getD (a .t3) k noColumn) {x = j} {y = j + 1 - 1} (omega arith))))
 
--- src/speaking.rt:39:1
 same-length : tie.Need-same-length Inv-loop μ-loop
-same-length c = ?
+same-length c = c .before .loop .inv .1 .same
 
--- src/speaking.rt:39:1
 returns : tie.Need-returns Inv-loop μ-loop
-returns c = ?
+unfolding each mail
+returns c = (filled-part _ _ _ _ _ (c .before .loop .inv .0) (omega (arith, c .before .before .before .columns .ensures)), rowed-done _ _ _ _ _ _ (c .before .loop .inv .1) (omega (arith, c .before .before .before .columns .ensures)))
 
 pub speak-all-spec : {M : Type 1} → statement M
 speak-all-spec =

@@ -3,20 +3,9 @@ use agreement::Column;
 use agreement::Stage;
 use field::Field;
 ghost use mathlib.Core.Path.{_≡_};
-ghost use lib.ListN.{getD};
 ghost use Rattle.block.specs.Block.{part};
 ghost use Rattle.agreement.specs.Column.{freshColumn};
 ghost use Rattle.agreement.specs.Calls.{noColumn};
-
-// Byte p of a record; 0 past its end.
-fn byte(bytes: &[u8], p: usize) -> u8
-    ensures { λ r. ⌜ r ≡ getD (now (bytes .entry)) p 0 ⌝ }
-{
-    if p < bytes.len() {
-        return bytes[p];
-    }
-    0
-}
 
 // A record in 32 places.
 fn places(bytes: &[u8]) -> [u8; 32]
@@ -24,7 +13,7 @@ fn places(bytes: &[u8]) -> [u8; 32]
 {
     let mut all = [0u8; 32];
     for p in 0..32 {
-        all[p] = byte(bytes, p);
+        all[p] = messages::byte(bytes, p);
     }
     all
 }

@@ -5,7 +5,7 @@ ghost use mathlib.Core.Path.{_≡_};
 ghost use mathlib.Core.Bool.{cond};
 ghost use Prim.Native.Nat.{_+_, _*_, _≤_};
 ghost use lib.Dec.{eqb, leb};
-ghost use lib.ListN.{length};
+ghost use lib.ListN.{length, getD};
 ghost use Rattle.lists.specs.Lists.{bit};
 ghost use Rattle.messages.specs.Messages.{readPoint, readReport, readBit, said, from, toAll, written, refusal as refusalOf, unlessRefused, toAllRefusal, heard as heardOf, heardFrom, heardOfAll, times as timesOf};
 
@@ -47,6 +47,16 @@ pub fn value(message: &[u16], k: usize) -> u16
         return message[k];
     }
     Field::BLANK
+}
+
+// Byte p of a record or a sheet, counted from 0; 0 past its end.
+pub fn byte(bytes: &[u8], p: usize) -> u8
+    ensures { λ r. ⌜ r ≡ getD (now (bytes .entry)) p 0 ⌝ }
+{
+    if p < bytes.len() {
+        return bytes[p];
+    }
+    0
 }
 
 // The place of value k of column j + 1's message, where messages have w values.

@@ -8,20 +8,16 @@ use lib.ListN.{length, getD, take, drop}
 use Rattle.lists.specs.Lists.{count, all}
 use Rattle.sizes.specs.Sizes.{faults, refusal as refusalOfSizes}
 
--- byte p, counted from 0; 0 past the end
-unfoldable pub byteAt : List ℕ → ℕ → ℕ
-byteAt sheet p = getD sheet p 0
-
 -- "n and m, a byte each"
 unfoldable pub columns : List ℕ → ℕ
-columns sheet = byteAt sheet 0
+columns sheet = getD sheet 0 0
 
 unfoldable pub bytes : List ℕ → ℕ
-bytes sheet = byteAt sheet 1
+bytes sheet = getD sheet 1 0
 
 -- "n marks": that of column i
 unfoldable pub mark : List ℕ → ℕ → ℕ
-mark sheet i = byteAt sheet (i + 1)
+mark sheet i = getD sheet (i + 1) 0
 
 -- "Each column is marked 0 sound or 1 unsound."
 unfoldable pub sound : List ℕ → ℕ → Bool
@@ -48,7 +44,7 @@ arrays n m = 2 + n + n * m
 
 -- "each value two bytes, low byte first"
 unfoldable pub word : List ℕ → ℕ → ℕ
-word sheet p = byteAt sheet p + 256 * byteAt sheet (p + 1)
+word sheet p = getD sheet p 0 + 256 * getD sheet (p + 1) 0
 
 -- "for each receiver 1 to n, the values of all rounds in order", `line` of them: value q of what an unsound column, before which there are
 -- `before` others, sends column i

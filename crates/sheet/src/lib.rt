@@ -1,38 +1,28 @@
 // A sheet of a wall, read where it lies: the sizes, the marks, where the records stand, the lines of the unsound columns, and what is refused.
 ghost use mathlib.Core.Path.{_≡_};
 ghost use Prim.Native.Nat.{_+_, _*_, _<_};
-ghost use Rattle.sheet.specs.Sheet.{byteAt, columns as columnsOf, bytes as bytesOf, mark as markOf, sound as soundOf, unsound as unsoundOf, unsoundTo, recordPlace, arrays as arraysOf, word as wordOf, lineValue, whole as wholeOf, markFits, refusalOfMarks, refusal as refusalOf};
+ghost use Rattle.sheet.specs.Sheet.{columns as columnsOf, bytes as bytesOf, mark as markOf, sound as soundOf, unsound as unsoundOf, unsoundTo, recordPlace, arrays as arraysOf, word as wordOf, lineValue, whole as wholeOf, markFits, refusalOfMarks, refusal as refusalOf};
 ghost use Rattle.lists.specs.Lists.{bit, all};
-
-// Byte p, counted from 0; 0 past the end.
-fn byte(sheet: &[u8], p: usize) -> u8
-    ensures { λ r. ⌜ r ≡ byteAt (now (sheet .entry)) p ⌝ }
-{
-    if p < sheet.len() {
-        return sheet[p];
-    }
-    0
-}
 
 // n, the number of columns.
 pub fn columns(sheet: &[u8]) -> u8
     ensures { λ r. ⌜ r ≡ columnsOf (now (sheet .entry)) ⌝ }
 {
-    byte(sheet, 0)
+    messages::byte(sheet, 0)
 }
 
 // m, the bytes of a record.
 pub fn bytes(sheet: &[u8]) -> u8
     ensures { λ r. ⌜ r ≡ bytesOf (now (sheet .entry)) ⌝ }
 {
-    byte(sheet, 1)
+    messages::byte(sheet, 1)
 }
 
 // The mark of column i.
 pub fn mark(sheet: &[u8], i: u8) -> u8
     ensures { λ r. ⌜ r ≡ markOf (now (sheet .entry)) i ⌝ }
 {
-    byte(sheet, i as usize + 1)
+    messages::byte(sheet, i as usize + 1)
 }
 
 // Whether i is a column, and marked sound.
@@ -85,8 +75,8 @@ fn word(sheet: &[u8], p: usize) -> u16
     requires { ⌜ p < 34359738368 ⌝ }
     ensures { λ r. ⌜ r ≡ wordOf (now (sheet .entry)) p ⌝ }
 {
-    let low = byte(sheet, p) as u16;
-    let high = byte(sheet, p + 1) as u16;
+    let low = messages::byte(sheet, p) as u16;
+    let high = messages::byte(sheet, p + 1) as u16;
     low + 256 * high
 }
 

@@ -1,2 +1,3 @@
--- The starred worked values of document 01, computed from the definitions: one statement, `worked`.
+-- The starred worked values of document 01 and a few walls more, computed from the definitions: one statement, `worked`.
+pub mod Walls
 pub mod Worked

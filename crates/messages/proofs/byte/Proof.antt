@@ -1,15 +1,15 @@
--- `start::byte` meets its contract.
-use mathlib.Core.Path.{sym}
+-- `byte` meets its contract.
 use borrow.Author.Needs.{needs}
+use mathlib.Core.Path.{refl, sym}
 use lib.ListN.{List·getD-eq-default}
-use Rattle.column.proofs.start.byte.Statement.{statement}
-use Rattle.column.proofs.start.byte.Tie as tie
+use Rattle.messages.proofs.byte.Statement.{statement}
+use Rattle.messages.proofs.byte.Tie as tie
 
 shared-slice-read-result : tie.Need-shared-slice-read-result
 shared-slice-read-result c = search needs
 
 returns : tie.Need-returns
-returns c = search needs
+returns c = refl
 
 returns-2 : tie.Need-returns-2
 returns-2 c = sym (List·getD-eq-default (c .before .args .bytes .now) 0 {n = c .before .args .p} (c .if1 .left))

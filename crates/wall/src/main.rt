@@ -1,0 +1,12 @@
+// Reads one sheet from standard input and prints the listing of its wall, or `refused` and a number.
+use libc::STDIN_FILENO;
+use libc::STDOUT_FILENO;
+
+fn main() {
+    // The longest sheet has 42,565 bytes. One byte more shows that a sheet has no right length, and its end is not read.
+    let mut sheet = [0u8; 42566];
+    let len = io::read_full(STDIN_FILENO, &mut sheet);
+    let mut text = [0u8; 3200];
+    let shown = listing::write(&sheet[..len], &mut text);
+    io::write_all(STDOUT_FILENO, &text[..shown]);
+}

@@ -5,7 +5,7 @@ use mathlib.Core.List.{List}
 use Prim.Native.Nat.{ℕ, _+_, _-_, _*_, _≤_, _<_}
 use native.Mathlib.Nat.{mul-le-mul}
 use native.Mathlib.Omega.{arith}
-use borrow.Author.Tests.{ltb-true, ltb-false}
+use borrow.Author.Tests.{ltb-true, ltb-false, leb-true}
 use lib.Dec.{T, eqb, ltb, eqb→eq}
 use lib.ListN.{length, getD, take, drop, length-drop}
 use lib.Seq.{length-take-le, getD-take, getD-drop}
@@ -15,7 +15,7 @@ use Rattle.lists.specs.Entries.{all-each}
 use Rattle.lists.specs.Rows.{row-fits}
 use Rattle.sizes.specs.Sizes.{faults, refusal as refusalOfSizes}
 use Rattle.sizes.specs.Laws.{InRange, accepted as accepted-sizes}
-use Rattle.sheet.specs.Sheet.{columns, bytes, mark, unsoundTo, recordPlace, recordOf, arrays, word, lineValue, whole, markFits, refusalOfMarks, refusal}
+use Rattle.sheet.specs.Sheet.{columns, bytes, mark, unsoundTo, recordPlace, recordOf, arrays, word, lineValue, whole, markFits, inOrder, refusalOfMarks, refusal}
 
 -- WHERE THINGS STAND
 
@@ -47,23 +47,22 @@ pub record Marked (line : ℕ) (sheet : List ℕ) : Type 0 where
   pub few : unsoundTo sheet (columns sheet) ≤ faults (columns sheet)
   pub full : length sheet ≡ whole line (columns sheet) (bytes sheet) (unsoundTo sheet (columns sheet))
 
+in-order : (fit few full : Bool) → inOrder fit few full ≡ 0 → (fit ≡ true) × (few ≡ true) × (full ≡ true)
+unfolding inOrder
+in-order true true true h = (refl, refl, refl)
+in-order true true false h = absurd (omega arith)
+in-order true false full h = absurd (omega arith)
+in-order false few full h = absurd (omega arith)
+
 marked : (line : ℕ) (sheet : List ℕ) → refusalOfMarks line sheet ≡ 0 → Marked line sheet
 unfolding refusalOfMarks markFits
-marked line sheet =
-    go (all (markFits sheet) (columns sheet)) (ltb (faults (columns sheet)) (unsoundTo sheet (columns sheet)))
-    (eqb (length sheet) (whole line (columns sheet) (bytes sheet) (unsoundTo sheet (columns sheet)))) refl refl refl
-  where
-    go : (a b c : Bool) → all (markFits sheet) (columns sheet) ≡ a → ltb (faults (columns sheet)) (unsoundTo sheet (columns sheet)) ≡ b
-        → eqb (length sheet) (whole line (columns sheet) (bytes sheet) (unsoundTo sheet (columns sheet))) ≡ c → _≡_ {A = ℕ} (cond (not a) 5 (cond b 6 (cond c 0 4))) 0 → Marked line sheet
-    go false b c ea eb ec h = absurd (omega arith)
-    go true true c ea eb ec h = absurd (omega arith)
-    go true false false ea eb ec h = absurd (omega arith)
-    go true false true ea eb ec h =
-        record {
-          marks = λ i l. ltb-true _ _ (is-true _ (all-each (markFits sheet) (columns sheet) (passes _ ea) i l));
-          few = ltb-false _ _ eb;
-          full = eqb→eq _ _ (passes _ ec);
-        }
+marked line sheet h =
+    let (fit, few, full) = in-order _ _ _ h in
+    record {
+      marks = λ i l. ltb-true _ _ (is-true _ (all-each (markFits sheet) (columns sheet) (passes _ fit) i l));
+      few = leb-true _ _ few;
+      full = eqb→eq _ _ (passes _ full);
+    }
 
 pub record Accepted (line : ℕ) (sheet : List ℕ) (rows : ℕ) : Type 0 where
   pub arrays-there : Arrays sheet
@@ -75,9 +74,6 @@ unfolding refusal
 accepted number line sheet rows =
     go (ltb (length sheet) 2) (eqb (refusalOfSizes (columns sheet) (bytes sheet) number) 0) (ltb (length sheet) (arrays (columns sheet) (bytes sheet))) (eqb rows (columns sheet)) refl refl refl refl
   where
-    why : ℕ
-    why = refusalOfSizes (columns sheet) (bytes sheet) number
-
     go : (a b c d : Bool) → ltb (length sheet) 2 ≡ a → eqb (refusalOfSizes (columns sheet) (bytes sheet) number) 0 ≡ b → ltb (length sheet) (arrays (columns sheet) (bytes sheet)) ≡ c → eqb rows (columns sheet) ≡ d
         → _≡_ {A = ℕ} (cond a 4 (cond (not b) (refusalOfSizes (columns sheet) (bytes sheet) number) (cond c 4 (cond (not d) 4 (refusalOfMarks line sheet))))) 0 → Accepted line sheet rows
     go true b c d ea eb ec ed h = absurd (omega arith)

@@ -63,12 +63,15 @@ whole line n m u = arrays n m + 2 * (u * n * line)
 unfoldable pub markFits : List ℕ → ℕ → Bool
 markFits sheet i = ltb (mark sheet (i + 1)) 2
 
--- of the marks and the length
+-- 5 where a mark does not fit, then 6 where not few are unsound, then 4 where the sheet is not whole
+unfoldable pub inOrder : Bool → Bool → Bool → ℕ
+inOrder fit few full = cond fit (cond few (cond full 0 4) 6) 5
+
+-- of the marks and the full length
 unfoldable pub refusalOfMarks : ℕ → List ℕ → ℕ
 refusalOfMarks line sheet =
-    cond (not (all (markFits sheet) (columns sheet))) 5
-    (cond (ltb (faults (columns sheet)) (unsoundTo sheet (columns sheet))) 6
-    (cond (eqb (length sheet) (whole line (columns sheet) (bytes sheet) (unsoundTo sheet (columns sheet)))) 0 4))
+    inOrder (all (markFits sheet) (columns sheet)) (leb (unsoundTo sheet (columns sheet)) (faults (columns sheet)))
+    (eqb (length sheet) (whole line (columns sheet) (bytes sheet) (unsoundTo sheet (columns sheet))))
 
 -- of a sheet whose lines have `line` values for each receiver, with a column number beside it, and of a row of `rows` entries; 0 for none
 unfoldable pub refusal : ℕ → ℕ → List ℕ → ℕ → ℕ

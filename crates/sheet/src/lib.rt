@@ -1,7 +1,7 @@
 // A sheet of a wall, read where it lies: the sizes, the marks, where the records stand, the lines of the unsound columns, and what is refused.
 ghost use mathlib.Core.Path.{_≡_};
 ghost use Prim.Native.Nat.{_+_, _*_, _<_};
-ghost use Rattle.sheet.specs.Sheet.{columns as columnsOf, bytes as bytesOf, mark as markOf, sound as soundOf, unsound as unsoundOf, unsoundTo, recordPlace, arrays as arraysOf, word as wordOf, lineValue, whole as wholeOf, markFits, refusalOfMarks, refusal as refusalOf};
+ghost use Rattle.sheet.specs.Sheet.{columns as columnsOf, bytes as bytesOf, mark as markOf, sound as soundOf, unsound as unsoundOf, unsoundTo, recordPlace, arrays as arraysOf, word as wordOf, lineValue, whole as wholeOf, markFits, inOrder, refusalOfMarks, refusal as refusalOf};
 ghost use Rattle.lists.specs.Lists.{bit, all};
 
 // n, the number of columns.
@@ -133,22 +133,31 @@ fn marks_fit(sheet: &[u8], n: u8) -> bool
     true
 }
 
-// Of the marks and the length: 5 for a mark other than 0 or 1, 6 for more than t marks of 1, 4 for another length.
+// 5 where a mark does not fit, then 6 where not few are unsound, then 4 where the sheet is not whole; 0 for none.
+fn in_order(fit: bool, few: bool, full: bool) -> u8
+    ensures { λ r. ⌜ r ≡ inOrder fit few full ⌝ }
+{
+    if !fit {
+        return 5;
+    }
+    if !few {
+        return 6;
+    }
+    if full {
+        return 0;
+    }
+    4
+}
+
+// Of the marks and the full length.
 fn refusal_of_marks(line: u16, sheet: &[u8]) -> u8
     ensures { λ r. ⌜ r ≡ refusalOfMarks line (now (sheet .entry)) ⌝ }
 {
     let n = columns(sheet);
-    if !marks_fit(sheet, n) {
-        return 5;
-    }
     let u = unsound_to(sheet, n);
-    if sizes::faults(n) < u as usize {
-        return 6;
-    }
-    if sheet.len() == whole(line, n, bytes(sheet), u) {
-        return 0;
-    }
-    4
+    let few = u as usize <= sizes::faults(n);
+    let full = sheet.len() == whole(line, n, bytes(sheet), u);
+    in_order(marks_fit(sheet, n), few, full)
 }
 
 // The refusal of a sheet whose lines have `line` values for each receiver, with a column number beside it, and of a row of `rows` entries;

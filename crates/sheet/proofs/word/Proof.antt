@@ -1,7 +1,9 @@
 -- `word` meets its contract.
 use borrow.Author.Needs.{needs}
-use mathlib.Core.Path.{refl}
 use Rattle.sheet.specs.Sheet.{word}
+use mathlib.Core.Path.{_≡_, refl}
+use Prim.Native.Nat.{_+_}
+use lib.ListN.{getD}
 use Rattle.sheet.proofs.word.Statement.{statement}
 use Rattle.sheet.proofs.word.Tie as tie
 
@@ -28,7 +30,7 @@ add-result c = search needs
 
 returns : tie.Need-returns
 unfolding word
-returns c = rw (c .before .byte .ensures, c .byte2 .ensures) refl
+returns c = let a = c .before .before .before .args in let low : c .before .byte .result ≡ getD (a .sheet .now) (a .p) 0 = c .before .byte .ensures in let high : c .byte2 .result ≡ getD (a .sheet .now) (a .p + 1) 0 = c .byte2 .ensures in rw (low, high) refl
 
 pub word-spec : {M : Type 1} → statement M
 word-spec =

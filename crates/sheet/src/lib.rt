@@ -46,7 +46,7 @@ pub fn one_if_unsound(sheet: &[u8], i: u8) -> u8
 }
 
 // How many of the columns 1 to i are marked unsound.
-pub fn unsound_to(sheet: &[u8], i: u8) -> u8
+fn unsound_to(sheet: &[u8], i: u8) -> u8
     ensures { λ r. ⌜ r ≡ unsoundTo (now (sheet .entry)) i ⌝ }
 {
     let mut sum = 0u8;
@@ -64,7 +64,7 @@ pub fn record_place(n: u8, m: u8, i: u8) -> usize
 }
 
 // Where the lines begin.
-pub fn arrays(n: u8, m: u8) -> usize
+fn arrays(n: u8, m: u8) -> usize
     ensures { λ r. ⌜ r ≡ arraysOf n m ⌝ }
 {
     2 + n as usize + messages::place(n, m as u16, 0)

@@ -3,7 +3,8 @@ use libc::STDIN_FILENO;
 use libc::STDOUT_FILENO;
 
 fn main() {
-    // The longest sheet has 42,565 bytes. One byte more shows that a sheet has no right length, and its end is not read.
+    // The longest sheet has 42,565 bytes. Of a longer input nothing more than one byte is read: what is printed is the same (`cut-alike` of
+    // listing/specs/Longest.antt).
     let mut sheet = [0u8; 42566];
     let len = io::read_full(STDIN_FILENO, &mut sheet);
     let mut text = [0u8; 3200];

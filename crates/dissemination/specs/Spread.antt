@@ -20,13 +20,12 @@ use Rattle.sizes.specs.Sizes.{faults, degree, blocks}
 use Rattle.sizes.specs.Laws.{InRange, sized}
 use Rattle.block.specs.Block.{block, value}
 use Rattle.block.specs.Value.{getD-part, length-part, below-part}
-use Rattle.messages.specs.Messages.{readPoint, said, times}
+use Rattle.messages.specs.Messages.{readPoint, said, times, from as at}
 use Rattle.messages.specs.Laws.{point-is}
 use Rattle.messages.specs.Wall.{Wall, Sound}
 use Rattle.messages.specs.Quorums.{enough, unheard}
 use Rattle.codeword.specs.Codeword.{Held, point}
 use Rattle.codeword.specs.Apart.{point-lt, said-values, byte-at}
-use Rattle.messages.specs.Messages.{from as at}
 use Rattle.decoder.specs.Decoder.{meetsAt}
 use Rattle.decoder.specs.Exactly.{exactly}
 use Rattle.dissemination.specs.Dissemination.{spoken, points, often, keptPoint, pointAt, blockOf, there, coefficient, isByte, isBlock, byteAt, recordOf}

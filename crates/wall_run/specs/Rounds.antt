@@ -15,6 +15,13 @@ use Rattle.sheet.specs.Sheet.{columns, bytes}
 use Rattle.delivery.specs.declared.Round.{Round}
 use Rattle.wall_run.specs.Run.{start, roundAt, played, after, ended}
 
+-- the values of a message, and what all columns say, have room
+pub width-le : (n m r : ℕ) → m ≤ 32 → values n m r ≤ 65
+width-le n m r h = omega (arith, values-le n m r)
+
+pub mail-le : (n w : ℕ) → n ≤ 31 → w ≤ 65 → n * (n * w) ≤ 65536
+mail-le n w h g = omega (arith, mul-le-mul {n₁ = n} {m₁ = n * w} {n₂ = 31} {m₂ = 2015} h (mul-le-mul {n₁ = n} {m₁ = w} {n₂ = 31} {m₂ = 65} h g))
+
 -- a round as the loop has it
 round-is : (sheet : List ℕ) (q l o w : ℕ) → l ≡ line (columns sheet) (bytes sheet) → o ≡ sum (values (columns sheet) (bytes sheet)) q
     → w ≡ values (columns sheet) (bytes sheet) (q + 1) → _≡_ {A = Round} (record { line = l; offset = o; width = w }) (roundAt sheet (q + 1))
@@ -57,7 +64,7 @@ going-few {sheet} {last} {mail} {wall} {offset} {q} g h =
       arith,
       g .offset-is,
       g .within,
-      sum-le (values (columns sheet) (bytes sheet)) 65 q (λ r. omega (arith, values-le (columns sheet) (bytes sheet) r)),
+      sum-le (values (columns sheet) (bytes sheet)) 65 q (λ r. width-le (columns sheet) (bytes sheet) r h),
       mul-le-mul {n₁ = q} {m₁ = 65} {n₂ = 101} {m₂ = 65} (omega (arith, g .within, g .few)) (omega arith),
     )
 

@@ -6,7 +6,7 @@ use Prim.Native.Nat.{ℕ, _+_, _-_, _*_, _≤_, _<_}
 use native.Mathlib.Omega.{arith}
 use borrow.Author.Tests.{eqb-true}
 use lib.Dec.{eqb}
-use lib.ListN.{length, getD, take, drop, replicate, length-replicate, getD-replicate, length-drop, take-append-drop}
+use lib.ListN.{length, take, drop, replicate, length-replicate, getD-replicate, length-drop, take-append-drop}
 use lib.Seq.{ext-getD, length-take-le, getD-take, getD-drop, take-take, drop-at}
 use Rattle.field.specs.Field.{blank}
 use Rattle.lists.specs.Lists.{listOf, rowsOf}

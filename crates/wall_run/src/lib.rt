@@ -3,6 +3,7 @@ mod entries;
 mod listening;
 mod rounds;
 mod row;
+mod space;
 mod speaking;
 mod start;
 

@@ -1,4 +1,5 @@
 // The second half of a round: every sound column listens to what the mail and the lines of the unsound columns have for it.
+use crate::space;
 use column::Column;
 use delivery::Round;
 ghost use mathlib.Core.Path.{_≡_};
@@ -38,7 +39,7 @@ pub(super) fn listen_all(
     ensures { λ r. ⌜ r ≡ each (columns (now (sheet .entry))) (heard (now (sheet .entry)) round (now (mail .entry))) wall ⌝ }
 {
     let n = sheet::columns(sheet);
-    let len = messages::place(n, round.width, 0);
+    let len = space::of_one(sheet, round.width);
     let mut inbox = [65535u16; 2048];
     let mut next = wall;
     for i in 0..n {

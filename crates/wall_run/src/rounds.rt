@@ -1,5 +1,6 @@
 // The rounds of a wall's run: in each, first all columns speak, then all listen.
 use crate::listening;
+use crate::space;
 use crate::speaking;
 use crate::start;
 use column::Column;
@@ -35,7 +36,7 @@ pub(super) fn ended(sheet: &[u8]) -> [Column; 31]
     let mut offset = 0u16;
     for q in 0..last {
         let width = sizes::values(n, m, q + 1) as u16;
-        let len = messages::place(n, messages::place(n, width, 0) as u16, 0);
+        let len = space::of_many(sheet, width, n);
         let round = Round {
             line: line,
             offset: offset,

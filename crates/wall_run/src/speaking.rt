@@ -1,4 +1,5 @@
 // The first half of a round: every sound column speaks. What it says lies in the mail, by the sender's number.
+use crate::space;
 use column::Column;
 ghost use mathlib.Core.Path.{_≡_};
 ghost use mathlib.Core.List.{_++_};
@@ -30,7 +31,7 @@ fn say(sheet: &[u8], width: u16, j: u8, column: Column, part: &mut [u16]) -> Col
     if !sheet::sound(sheet, j + 1) {
         return column;
     }
-    let len = messages::place(sheet::columns(sheet), width, 0);
+    let len = space::of_one(sheet, width);
     let answered = column::speak(column, &mut part[..len]);
     answered.column
 }
@@ -46,12 +47,11 @@ pub(super) fn speak_all(
     ensures { λ r. ⌜ (r ≡ each (columns (now (sheet .entry))) (spoken (now (sheet .entry)) width) wall) × (now (mail .exit) ≡ mailOf (now (sheet .entry)) width wall) ⌝ }
 {
     let n = sheet::columns(sheet);
-    let size = messages::place(n, width, 0) as u16;
     let mut next = wall;
     for j in 0..n {
         let i = j as usize;
         let column = wall[i];
-        let at = messages::place(j, size, 0);
+        let at = space::of_many(sheet, width, j);
         next[i] = say(sheet, width, j, column, &mut mail[at..]);
     }
     next

@@ -1,7 +1,7 @@
 -- Document 01, "Sizes of a wall" and "Worked values", in their order, then walls that tell thresholds apart. Each is shown by computing with
 -- the definitions.
 use mathlib.Core.Path.{_≡_, refl}
-use mathlib.Core.List.{List, [], _∷_, _++_}
+use mathlib.Core.List.{[], _∷_, _++_}
 use Prim.Native.Nat.{ℕ}
 use Rattle.lists.specs.Lists.{count, sum, all, listOf, rowsOf}
 use Rattle.field.specs.Field.{add, multiply, inverse, inverseBelow}

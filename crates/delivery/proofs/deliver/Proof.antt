@@ -25,7 +25,9 @@ refusal-requires : tie.Need-refusal-requires Inv-loop μ-loop
 refusal-requires c κs = tt
 
 returns : tie.Need-returns Inv-loop μ-loop
-returns c = let e = c .before .refusal .ensures ∙ ap (λ (n : ℕ). refusal 0 n (c .before .before .before .before .before .before .args .round .width) (length (c .before .before .before .before .before .before .args .inbox .now))) (c .before .before .columns .ensures) in (e, sym (if-refused _ _ _ (λ z. c .if1 .taken (e ∙ z))))
+returns c =
+    let e = c .before .refusal .ensures ∙ ap (λ (n : ℕ). refusal 0 n (c .before .before .before .before .before .before .args .round .width) (length (c .before .before .before .before .before .before .args .inbox .now))) (c .before .before .columns .ensures) in
+    (e, sym (if-refused _ _ _ (λ z. c .if1 .taken (e ∙ z))))
 
 loop-holds : tie.Need-loop-holds Inv-loop μ-loop
 loop-holds c = (rowed-none _ _ _ _ (sym (accepted _ _ _ _ (sym (c .before .refusal .ensures) ∙ c .if1 .left) .1)), counted-none _ _)
@@ -72,7 +74,9 @@ same-length c = c .before .loop .inv .0 .same
 
 returns-2 : tie.Need-returns-2 Inv-loop μ-loop
 unfolding inbox
-returns-2 c = let e = sym (c .before .before .if1 .left) ∙ c .before .before .before .refusal .ensures ∙ ap (λ (n : ℕ). refusal 0 n (c .before .before .before .before .before .before .before .before .args .round .width) (length (c .before .before .before .before .before .before .before .before .args .inbox .now))) (c .before .before .before .before .columns .ensures) in (e, rowed-done _ _ _ _ _ _ (c .before .loop .inv .0) (omega arith) ∙ ap (λ (n : ℕ). rowsOf (sent (c .before .before .before .before .before .before .before .before .args .sheet .now) (c .before .before .before .before .before .before .before .before .args .round) (c .before .before .before .before .before .before .before .before .args .mail .now) (c .before .before .before .before .before .before .before .before .args .to + 1)) (c .before .before .before .before .before .before .before .before .args .round .width) n) (c .before .before .before .before .columns .ensures) ∙ sym (if-done _ _ _ (sym e)))
+returns-2 c =
+    let e = sym (c .before .before .if1 .left) ∙ c .before .before .before .refusal .ensures ∙ ap (λ (n : ℕ). refusal 0 n (c .before .before .before .before .before .before .before .before .args .round .width) (length (c .before .before .before .before .before .before .before .before .args .inbox .now))) (c .before .before .before .before .columns .ensures) in
+    (e, rowed-done _ _ _ _ _ _ (c .before .loop .inv .0) (omega arith) ∙ ap (λ (n : ℕ). rowsOf (sent (c .before .before .before .before .before .before .before .before .args .sheet .now) (c .before .before .before .before .before .before .before .before .args .round) (c .before .before .before .before .before .before .before .before .args .mail .now) (c .before .before .before .before .before .before .before .before .args .to + 1)) (c .before .before .before .before .before .before .before .before .args .round .width) n) (c .before .before .before .before .columns .ensures) ∙ sym (if-done _ _ _ (sym e)))
 
 pub deliver-spec : {M : Type 1} → statement M
 deliver-spec =

@@ -1,7 +1,6 @@
 -- `write` meets its contract.
 use borrow.Author.Needs.{needs}
-use mathlib.Core.Path.{refl}
-use mathlib.Core.Path.{_≡_, refl, ap, _∙_}
+use mathlib.Core.Path.{refl, _≡_, ap, _∙_}
 use mathlib.Core.List.{List}
 use Prim.Native.Nat.{ℕ, min}
 use lib.ListN.{length}
@@ -29,7 +28,10 @@ same-length c = search needs
 
 returns : tie.Need-returns
 unfolding listingOf
-returns c = let a = c .before .before .before .before .before .before .before .before .before .args in let e : listing (c .before .before .before .before .before .before .columns .result) (c .before .before .before .before .before .bytes .result) (c .before .before .before .before .outcomes-of .result) ≡ listingOf (a .sheet .now) = rw (c .before .before .before .before .outcomes-of .ensures, c .before .before .before .before .before .bytes .ensures, c .before .before .before .before .before .before .columns .ensures) refl in (c .before .before .write-outcomes .ensures .0 ∙ ap (λ (text : List ℕ). min (length text) (length (a .out .now))) e, c .before .before .write-outcomes .ensures .1 ∙ ap (λ (text : List ℕ). shown text (a .out .now)) e)
+returns c =
+    let a = c .before .before .before .before .before .before .before .before .before .args in
+    let e : listing (c .before .before .before .before .before .before .columns .result) (c .before .before .before .before .before .bytes .result) (c .before .before .before .before .outcomes-of .result) ≡ listingOf (a .sheet .now) = rw (c .before .before .before .before .outcomes-of .ensures, c .before .before .before .before .before .bytes .ensures, c .before .before .before .before .before .before .columns .ensures) refl in
+    (c .before .before .write-outcomes .ensures .0 ∙ ap (λ (text : List ℕ). min (length text) (length (a .out .now))) e, c .before .before .write-outcomes .ensures .1 ∙ ap (λ (text : List ℕ). shown text (a .out .now)) e)
 
 pub write-spec : {M : Type 1} → statement M
 write-spec =

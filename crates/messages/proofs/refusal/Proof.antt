@@ -3,7 +3,6 @@ use mathlib.Core.Path.{sym}
 use native.Mathlib.Omega.{arith}
 use borrow.Author.Needs.{needs}
 use Rattle.messages.specs.Laws.{refused-before, refused-length, not-refused}
-use Rattle.messages.specs.Messages.{refusal}
 use Rattle.messages.proofs.refusal.Statement.{statement}
 use Rattle.messages.proofs.refusal.Tie as tie
 

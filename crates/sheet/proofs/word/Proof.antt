@@ -30,7 +30,11 @@ add-result c = search needs
 
 returns : tie.Need-returns
 unfolding word
-returns c = let a = c .before .before .before .args in let low : c .before .byte .result ≡ getD (a .sheet .now) (a .p) 0 = c .before .byte .ensures in let high : c .byte2 .result ≡ getD (a .sheet .now) (a .p + 1) 0 = c .byte2 .ensures in rw (low, high) refl
+returns c =
+    let a = c .before .before .before .args in
+    let low : c .before .byte .result ≡ getD (a .sheet .now) (a .p) 0 = c .before .byte .ensures in
+    let high : c .byte2 .result ≡ getD (a .sheet .now) (a .p + 1) 0 = c .byte2 .ensures in
+    rw (low, high) refl
 
 pub word-spec : {M : Type 1} → statement M
 word-spec =

@@ -1,19 +1,15 @@
 -- `entries::all` meets its contract.
-use mathlib.Core.Path.{_∙_}
-use Prim.Native.Nat.{ℕ, _-_}
+use mathlib.Core.Path.{_∙_, ap, ap₂}
+use Prim.Native.Nat.{_-_, _+_}
 use native.Mathlib.Omega.{arith}
-use lib.ListN.{length-replicate}
+use lib.ListN.{length-replicate, drop, replicate}
 use Rattle.lists.specs.Loops.{Filled, filled-none, filled-more, filled-part}
-use Rattle.wall_run.specs.Run.{entryIn, inPlaces}
-use mathlib.Core.Path.{ap, ap₂, _∙_}
+use Rattle.wall_run.specs.Run.{entryIn, inPlaces, entryOf}
 use mathlib.Core.List.{List, _++_}
-use Prim.Native.Nat.{_+_, _-_}
-use lib.ListN.{drop, replicate, length-replicate}
 use Rattle.lists.specs.Lists.{listOf}
 use Rattle.lists.specs.Entries.{getD-within}
 use Rattle.agreement.specs.Calls.{noColumn}
 use Rattle.wall_run.specs.declared.Entry.{Entry}
-use Rattle.wall_run.specs.Run.{entryOf, entryIn, inPlaces}
 use Rattle.wall_run.proofs.entries.all.Statement.{statement}
 use Rattle.wall_run.proofs.entries.all.Tie as tie
 
@@ -58,11 +54,16 @@ loop-less c = omega arith
 
 loop-again : tie.Need-loop-again Inv-loop μ-loop
 unfolding entryIn
-loop-again c = let a = c .before .before .before .before .before .before .before .args in let i = c .before .before .before .loop .i in filled-more _ _ _ _ _ _ (c .before .before .before .loop .inv) (omega arith) (c .entry .ensures ∙ ap (entryOf (a .sheet .now) (i + 1)) (getD-within (a .t2) i _ noColumn (omega (arith, c .before .before .before .before .before .columns .ensures, c .before .before .before .before .before .before .before .pre, c .before .before .before .before .before .before .before .good .1 .0 .1 .0 .1))))
+loop-again c =
+    let a = c .before .before .before .before .before .before .before .args in
+    let i = c .before .before .before .loop .i in
+    filled-more _ _ _ _ _ _ (c .before .before .before .loop .inv) (omega arith) (c .entry .ensures ∙ ap (entryOf (a .sheet .now) (i + 1)) (getD-within (a .t2) i _ noColumn (omega (arith, c .before .before .before .before .before .columns .ensures, c .before .before .before .before .before .before .before .pre, c .before .before .before .before .before .before .before .good .1 .0 .1 .0 .1))))
 
 returns : tie.Need-returns Inv-loop μ-loop
 unfolding inPlaces
-returns c = let a = c .before .before .before .before .before .args in filled-part _ _ _ _ _ (c .before .loop .inv) (omega arith) ∙ ap₂ {C = List Entry} (λ n none. listOf (entryIn (a .sheet .now) (a .t2)) n ++ drop n (replicate 31 none)) (c .before .before .before .columns .ensures) (c .before .before .mark-only .ensures)
+returns c =
+    let a = c .before .before .before .before .before .args in
+    filled-part _ _ _ _ _ (c .before .loop .inv) (omega arith) ∙ ap₂ {C = List Entry} (λ n none. listOf (entryIn (a .sheet .now) (a .t2)) n ++ drop n (replicate 31 none)) (c .before .before .before .columns .ensures) (c .before .before .mark-only .ensures)
 
 pub all-spec : {M : Type 1} → statement M
 all-spec =

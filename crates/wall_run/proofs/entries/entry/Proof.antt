@@ -1,9 +1,7 @@
 -- `entries::entry` meets its contract.
 use borrow.Author.Needs.{needs}
-use mathlib.Core.Path.{refl, sym, _∙_}
-use Rattle.wall_run.specs.Run.{entryOf}
-use mathlib.Core.Path.{sym, ap, _∙_}
-use Rattle.wall_run.specs.Run.{markOnly, entryOf}
+use mathlib.Core.Path.{sym, _∙_, ap}
+use Rattle.wall_run.specs.Run.{entryOf, markOnly}
 use Rattle.wall_run.proofs.entries.entry.Statement.{statement}
 use Rattle.wall_run.proofs.entries.entry.Tie as tie
 

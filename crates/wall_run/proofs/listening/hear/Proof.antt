@@ -1,9 +1,8 @@
 -- `listening::hear` meets its contract.
 use borrow.Author.Needs.{needs}
-use mathlib.Core.Path.{refl, sym, _∙_}
+use mathlib.Core.Path.{refl, sym, _∙_, ap}
 use borrow.Author.Tests.{not-true, not-false}
 use Rattle.wall_run.specs.Run.{heard}
-use mathlib.Core.Path.{refl, sym, ap, _∙_}
 use mathlib.Core.List.{List}
 use Prim.Native.Nat.{ℕ}
 use lib.ListN.{length}
@@ -35,7 +34,10 @@ same-length c = search needs
 
 returns-2 : tie.Need-returns-2
 unfolding heard
-returns-2 c = let a = c .before .before .before .before .before .before .before .before .before .before .before .before .args in let got = c .before .before .before .before .before .deliver .ensures .1 ∙ if-done _ _ _ (not-refused 0 (columns (a .sheet .now)) (a .round .width) (length (a .inbox .now)) refl (c .before .before .before .before .before .before .before .before .before .before .before .before .pre .1)) in rw (sym (c .before .before .before .before .before .before .before .before .sound .ensures) ∙ not-false _ (c .before .before .before .before .before .before .before .if1 .left)) (ap (λ (r : Answered). r .column) (c .before .listen .ensures) ∙ ap (λ (l : List ℕ). listen (a .column) l .column) got)
+returns-2 c =
+    let a = c .before .before .before .before .before .before .before .before .before .before .before .before .args in
+    let got = c .before .before .before .before .before .deliver .ensures .1 ∙ if-done _ _ _ (not-refused 0 (columns (a .sheet .now)) (a .round .width) (length (a .inbox .now)) refl (c .before .before .before .before .before .before .before .before .before .before .before .before .pre .1)) in
+    rw (sym (c .before .before .before .before .before .before .before .before .sound .ensures) ∙ not-false _ (c .before .before .before .before .before .before .before .if1 .left)) (ap (λ (r : Answered). r .column) (c .before .listen .ensures) ∙ ap (λ (l : List ℕ). listen (a .column) l .column) got)
 
 pub hear-spec : {M : Type 1} → statement M
 hear-spec =

@@ -1,16 +1,14 @@
 -- `listening::listen_all` meets its contract.
 use mathlib.Core.Path.{_≡_, sym, ap, _∙_}
-use Prim.Native.Nat.{ℕ, _+_, _-_, _*_}
-use native.Mathlib.Nat.{add-zero}
+use Prim.Native.Nat.{ℕ, _+_, _-_, _<_}
 use native.Mathlib.Omega.{arith}
 use lib.ListN.{length, length-replicate}
-use lib.Seq.{length-take-le}
+use lib.Seq.{length-take-le, length-front}
 use Rattle.lists.specs.Entries.{getD-within}
 use Rattle.lists.specs.Loops.{Filled, filled-none, filled-more, filled-part}
 use Rattle.agreement.specs.Calls.{noColumn}
 use Rattle.sheet.specs.Sheet.{columns}
 use Rattle.wall_run.specs.Run.{turned, each, heard}
-use lib.Seq.{length-take-le, length-front}
 use Rattle.wall_run.proofs.listening.listen_all.Statement.{statement}
 use Rattle.wall_run.proofs.listening.listen_all.Tie as tie
 
@@ -23,8 +21,8 @@ abbrev μ-loop : tie.MeasureT-loop
 columns-requires : tie.Need-columns-requires Inv-loop μ-loop
 columns-requires c κs = tt
 
-place-requires : tie.Need-place-requires Inv-loop μ-loop
-place-requires c κs = tt
+of-one-requires : tie.Need-of-one-requires Inv-loop μ-loop
+of-one-requires c κs = tt
 
 loop-holds : tie.Need-loop-holds Inv-loop μ-loop
 loop-holds c = (filled-none _ _ _ (omega (arith, c .before .before .before .before .pre .0, c .before .before .before .before .good .1 .1 .1 .0 .1 .0 .1)), length-replicate {A = ℕ} 2048 65535)
@@ -39,13 +37,13 @@ array-copy-out-column : tie.Need-array-copy-out-column Inv-loop μ-loop
 array-copy-out-column c = omega (arith, c .before .before .before .columns .ensures, c .before .before .before .before .before .before .pre .0)
 
 array-borrow-prefix-inbox : tie.Need-array-borrow-prefix-inbox Inv-loop μ-loop
-array-borrow-prefix-inbox c = let a = c .before .before .before .before .before .before .before .args in let len : c .before .before .before .place .result ≡ columns (a .sheet .now) * a .round .width = c .before .before .before .place .ensures ∙ add-zero _ ∙ ap (λ (n : ℕ). n * a .round .width) (c .before .before .before .before .columns .ensures) in omega (arith, c .before .before .before .before .before .before .before .pre .1)
+array-borrow-prefix-inbox c = omega (arith, c .before .before .before .of-one .ensures, c .before .before .before .before .before .before .before .pre .1)
 
 slice-aggregate-hear : tie.Need-slice-aggregate-hear Inv-loop μ-loop
-slice-aggregate-hear c = let a = c .before .before .before .before .before .before .before .before .args in let len : c .before .before .before .before .place .result ≡ columns (a .sheet .now) * a .round .width = c .before .before .before .before .place .ensures ∙ add-zero _ ∙ ap (λ (n : ℕ). n * a .round .width) (c .before .before .before .before .before .columns .ensures) in sym (length-take-le _ _ (omega (arith, c .before .before .before .before .before .before .before .before .pre .1, c .before .before .before .loop .inv .1)))
+slice-aggregate-hear c = sym (length-take-le _ _ (omega (arith, c .before .before .before .before .of-one .ensures, c .before .before .before .before .before .before .before .before .pre .1, c .before .before .before .loop .inv .1)))
 
 hear-requires : tie.Need-hear-requires Inv-loop μ-loop
-hear-requires c κs = let a = c .before .before .before .before .before .before .before .before .args in let len : c .before .before .before .before .place .result ≡ columns (a .sheet .now) * a .round .width = c .before .before .before .before .place .ensures ∙ add-zero _ ∙ ap (λ (n : ℕ). n * a .round .width) (c .before .before .before .before .before .columns .ensures) in (omega (arith, c .before .before .before .before .before .columns .ensures, c .before .before .before .before .before .before .before .before .pre .0), length-take-le _ _ (omega (arith, c .before .before .before .before .before .before .before .before .pre .1, c .before .before .before .loop .inv .1)) ∙ len)
+hear-requires c κs = (omega (arith, c .before .before .before .before .before .columns .ensures, c .before .before .before .before .before .before .before .before .pre .0), length-take-le _ _ (omega (arith, c .before .before .before .before .of-one .ensures, c .before .before .before .before .before .before .before .before .pre .1, c .before .before .before .loop .inv .1)) ∙ c .before .before .before .before .of-one .ensures)
 
 mul-next : tie.Need-mul-next Inv-loop μ-loop
 mul-next c = omega (arith, c .before .before .before .before .before .before .before .columns .ensures, c .before .before .before .before .before .before .before .before .before .before .pre .0)
@@ -61,7 +59,12 @@ loop-less c = omega arith
 
 loop-again : tie.Need-loop-again Inv-loop μ-loop
 unfolding turned
-loop-again c = let a = c .before .before .before .before .before .before .before .before .before .before .args in let i = c .before .before .before .before .before .loop .i in (filled-more _ _ _ _ _ _ (c .before .before .before .before .before .loop .inv .0) (omega (arith, c .before .before .before .before .before .before .before .columns .ensures)) (c .before .hear .ensures ∙ ap (heard (a .sheet .now) (a .round) (a .mail .now) (i + 1)) (getD-within (a .t4) i _ noColumn (omega (arith, c .before .before .before .before .before .before .before .columns .ensures, c .before .before .before .before .before .before .before .before .before .before .pre .0, c .before .before .before .before .before .before .before .before .before .before .good .1 .1 .1 .0 .1 .0 .1)))), length-front (c .before .before .before .before .before .loop .inbox) (c .before .hear .last .1 .1 .1 .1 .1 .0) (c .before .before .before .before .before .before .place .result) (c .before .hear .kept .1 .1 .1 .1 .1 .0) ∙ c .before .before .before .before .before .loop .inv .1)
+loop-again c =
+    let a = c .before .before .before .before .before .before .before .before .before .before .args in
+    let i = c .before .before .before .before .before .loop .i in
+    let inside : i < columns (a .sheet .now) = omega (arith, c .before .before .before .before .before .before .before .columns .ensures) in
+    let read = getD-within (a .t4) i _ noColumn (omega (arith, c .before .before .before .before .before .before .before .before .before .before .pre .0, c .before .before .before .before .before .before .before .before .before .before .good .1 .1 .1 .0 .1 .0 .1)) in
+    (filled-more _ _ _ _ _ _ (c .before .before .before .before .before .loop .inv .0) inside (c .before .hear .ensures ∙ ap (heard (a .sheet .now) (a .round) (a .mail .now) (i + 1)) read), length-front (c .before .before .before .before .before .loop .inbox) (c .before .hear .last .1 .1 .1 .1 .1 .0) (c .before .before .before .before .before .before .of-one .result) (c .before .hear .kept .1 .1 .1 .1 .1 .0) ∙ c .before .before .before .before .before .loop .inv .1)
 
 returns : tie.Need-returns Inv-loop μ-loop
 unfolding each
@@ -74,7 +77,7 @@ listen-all-spec =
     Inv-loop
     μ-loop
     columns-requires
-    place-requires
+    of-one-requires
     loop-holds
     cast-at
     mul-column

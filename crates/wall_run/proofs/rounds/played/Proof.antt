@@ -17,17 +17,24 @@ clear-requires : tie.Need-clear-requires
 clear-requires c κs = search needs
 
 speak-all-requires : tie.Need-speak-all-requires
-speak-all-requires c κs = let p = c .before .before .before .before .before .before .before .pre in record { few = p .0; narrow = p .1; blank-all = c .before .before .before .clear .ensures ∙ ap (λ (k : ℕ). replicate k blank) (p .2) }
+speak-all-requires c κs =
+    let p = c .before .before .before .before .before .before .before .pre in
+    record { few = p .0; narrow = p .1; blank-all = c .before .before .before .clear .ensures ∙ ap (λ (k : ℕ). replicate k blank) (p .2) }
 
 listen-all-requires : tie.Need-listen-all-requires
-listen-all-requires c κs = let p = c .before .before .before .before .before .before .before .before .before .before .before .pre in let a = c .before .before .before .before .before .before .before .before .before .before .before .args in (p .0, omega (arith, mul-le-mul {n₁ = columns (a .sheet .now)} {m₁ = a .round .width} {n₂ = 31} {m₂ = 65} (p .0) (p .1)))
+listen-all-requires c κs =
+    let p = c .before .before .before .before .before .before .before .before .before .before .before .pre in
+    let a = c .before .before .before .before .before .before .before .before .before .before .before .args in
+    (p .0, omega (arith, mul-le-mul {n₁ = columns (a .sheet .now)} {m₁ = a .round .width} {n₂ = 31} {m₂ = 65} (p .0) (p .1)))
 
 same-length : tie.Need-same-length
 same-length c = search needs
 
 returns : tie.Need-returns
 unfolding played
-returns c = let a = c .before .before .before .before .before .before .before .before .before .before .before .before .args in c .listen-all .ensures ∙ ap₂ {C = List Column} (λ mail wall. each (columns (a .sheet .now)) (heard (a .sheet .now) (a .round) mail) wall) (c .before .before .before .before .speak-all .ensures .1) (c .before .before .before .before .speak-all .ensures .0)
+returns c =
+    let a = c .before .before .before .before .before .before .before .before .before .before .before .before .args in
+    c .listen-all .ensures ∙ ap₂ {C = List Column} (λ mail wall. each (columns (a .sheet .now)) (heard (a .sheet .now) (a .round) mail) wall) (c .before .before .before .before .speak-all .ensures .1) (c .before .before .before .before .speak-all .ensures .0)
 
 pub played-spec : {M : Type 1} → statement M
 played-spec =

@@ -1,76 +1,72 @@
 -- `speaking::speak_all` meets its contract.
-use mathlib.Core.Path.{_≡_, sym, ap, _∙_}
-use Prim.Native.Nat.{ℕ, _+_, _-_, _*_}
-use native.Mathlib.Nat.{add-zero, mul-le-mul}
+use mathlib.Core.Path.{sym, ap, _∙_}
+use mathlib.Core.List.{_++_}
+use Prim.Native.Nat.{ℕ, _+_, _-_, _*_, _≤_, _<_}
 use native.Mathlib.Omega.{arith}
-use lib.ListN.{length, length-replicate}
+use lib.ListN.{length, getD, take, drop, length-replicate}
+use Rattle.lists.specs.Lists.{listOf}
+use Rattle.messages.specs.Messages.{said}
+use Rattle.agreement.specs.declared.Column.{Column}
 use Rattle.field.specs.Field.{blank}
 use Rattle.lists.specs.Entries.{getD-within}
 use Rattle.lists.specs.Loops.{Filled, filled-none, filled-more, filled-part, Rowed, rowed-none, rowed-fits, rowed-more, rowed-room, rowed-done}
 use Rattle.agreement.specs.Calls.{noColumn}
 use Rattle.sheet.specs.Sheet.{columns}
-use Rattle.wall_run.specs.Run.{columnAt, turned, each, spoken, wordsOf, mail}
-use Rattle.wall_run.specs.Speaking.{blank-part}
-use mathlib.Core.List.{_++_}
-use Prim.Native.Nat.{ℕ, _+_, _-_, _*_, _<_}
-use lib.ListN.{length, getD, take, drop, length-replicate}
-use Rattle.lists.specs.Lists.{listOf}
-use Rattle.messages.specs.Messages.{said}
-use Rattle.agreement.specs.declared.Column.{Column}
 use Rattle.wall_run.specs.Run.{columnAt, turned, each, spoken, words, wordsOf, mail}
+use Rattle.wall_run.specs.Speaking.{blank-part}
 use Rattle.wall_run.proofs.speaking.speak_all.Statement.{statement}
 use Rattle.wall_run.proofs.speaking.speak_all.Tie as tie
 
 abbrev Inv-loop : tie.InvT-loop
-Inv-loop sheet width mail₀ wall n size next₀ j₀ mail next j = Filled (turned (spoken sheet width) wall) (columns sheet) next₀ next j × Rowed (wordsOf sheet width wall) (columns sheet * width) (columns sheet) mail₀ mail j
+Inv-loop sheet width mail₀ wall n next₀ j₀ mail next j = Filled (turned (spoken sheet width) wall) (columns sheet) next₀ next j × Rowed (wordsOf sheet width wall) (columns sheet * width) (columns sheet) mail₀ mail j
 
 abbrev μ-loop : tie.MeasureT-loop
-μ-loop sheet width mail₀ wall n size next₀ j₀ mail next j = n - j
+μ-loop sheet width mail₀ wall n next₀ j₀ mail next j = n - j
 
 columns-requires : tie.Need-columns-requires Inv-loop μ-loop
 columns-requires c κs = tt
 
-place-requires : tie.Need-place-requires Inv-loop μ-loop
-place-requires c κs = tt
-
-cast-size : tie.Need-cast-size Inv-loop μ-loop
-cast-size c = let a = c .before .before .before .before .args in let len : c .place .result ≡ columns (a .sheet .now) * a .width = c .place .ensures ∙ add-zero _ ∙ ap (λ (n : ℕ). n * a .width) (c .before .columns .ensures) in omega (arith, mul-le-mul {n₁ = columns (a .sheet .now)} {m₁ = a .width} {n₂ = 31} {m₂ = 65} (c .before .before .before .before .pre .few) (c .before .before .before .before .pre .narrow))
-
 loop-holds : tie.Need-loop-holds Inv-loop μ-loop
-loop-holds c = let s = c .before .before .before .before .pre in (filled-none _ _ _ (omega (arith, s .few, c .before .before .before .before .good .1 .1 .0 .1 .0 .1)), rowed-none _ _ _ _ (sym (ap length (s .blank-all) ∙ length-replicate _ blank)))
+loop-holds c =
+    let s = c .before .before .before .pre in
+    (filled-none _ _ _ (omega (arith, s .few, c .before .before .before .good .1 .1 .0 .1 .0 .1)), rowed-none _ _ _ _ (sym (ap length (s .blank-all) ∙ length-replicate _ blank)))
 
 cast-i : tie.Need-cast-i Inv-loop μ-loop
 cast-i c = omega arith
 
 mul-column : tie.Need-mul-column Inv-loop μ-loop
-mul-column c = omega (arith, c .before .before .before .columns .ensures, c .before .before .before .before .before .before .pre .few)
+mul-column c = omega (arith, c .before .before .columns .ensures, c .before .before .before .before .before .pre .few)
 
 array-copy-out-column : tie.Need-array-copy-out-column Inv-loop μ-loop
-array-copy-out-column c = omega (arith, c .before .before .before .columns .ensures, c .before .before .before .before .before .before .pre .few)
+array-copy-out-column c = omega (arith, c .before .before .columns .ensures, c .before .before .before .before .before .pre .few)
 
-place-requires-2 : tie.Need-place-requires-2 Inv-loop μ-loop
-place-requires-2 c κs = tt
+of-many-requires : tie.Need-of-many-requires Inv-loop μ-loop
+of-many-requires c κs = (c .before .before .before .before .before .before .pre .few, c .before .before .before .before .before .before .pre .narrow)
 
 mul-say : tie.Need-mul-say Inv-loop μ-loop
-mul-say c = let a = c .before .before .before .before .before .before .before .before .args in let len : c .before .before .before .before .place .result ≡ columns (a .sheet .now) * a .width = c .before .before .before .before .place .ensures ∙ add-zero _ ∙ ap (λ (n : ℕ). n * a .width) (c .before .before .before .before .before .columns .ensures) in let at = (c .place2 .ensures ∙ add-zero _ ∙ ap (λ (s : ℕ). c .before .before .before .loop .j * s) len) in omega (arith, rowed-fits _ _ _ _ _ _ (c .before .before .before .loop .inv .1) (omega (arith, c .before .before .before .before .before .columns .ensures)), c .before .before .before .before .before .before .before .before .good)
+mul-say c = omega (arith, c .of-many .ensures, rowed-fits _ _ _ _ _ _ (c .before .before .before .loop .inv .1) (omega (arith, c .before .before .before .before .columns .ensures)), c .before .before .before .before .before .before .before .good)
 
 sub-say : tie.Need-sub-say Inv-loop μ-loop
-sub-say c = let a = c .before .before .before .before .before .before .before .before .args in let len : c .before .before .before .before .place .result ≡ columns (a .sheet .now) * a .width = c .before .before .before .before .place .ensures ∙ add-zero _ ∙ ap (λ (n : ℕ). n * a .width) (c .before .before .before .before .before .columns .ensures) in let at = (c .place2 .ensures ∙ add-zero _ ∙ ap (λ (s : ℕ). c .before .before .before .loop .j * s) len) in omega (arith, rowed-fits _ _ _ _ _ _ (c .before .before .before .loop .inv .1) (omega (arith, c .before .before .before .before .before .columns .ensures)))
+sub-say c = omega (arith, c .of-many .ensures, rowed-fits _ _ _ _ _ _ (c .before .before .before .loop .inv .1) (omega (arith, c .before .before .before .before .columns .ensures)))
 
 part-say-start : tie.Need-part-say-start Inv-loop μ-loop
-part-say-start c = let a = c .before .before .before .before .before .before .before .before .args in let len : c .before .before .before .before .place .result ≡ columns (a .sheet .now) * a .width = c .before .before .before .before .place .ensures ∙ add-zero _ ∙ ap (λ (n : ℕ). n * a .width) (c .before .before .before .before .before .columns .ensures) in let at = (c .place2 .ensures ∙ add-zero _ ∙ ap (λ (s : ℕ). c .before .before .before .loop .j * s) len) in omega (arith, rowed-fits _ _ _ _ _ _ (c .before .before .before .loop .inv .1) (omega (arith, c .before .before .before .before .before .columns .ensures)))
+part-say-start c = omega (arith, c .of-many .ensures, rowed-fits _ _ _ _ _ _ (c .before .before .before .loop .inv .1) (omega (arith, c .before .before .before .before .columns .ensures)))
 
 part-say-end : tie.Need-part-say-end Inv-loop μ-loop
 part-say-end c = omega arith
 
 say-requires : tie.Need-say-requires Inv-loop μ-loop
-say-requires c κs = let a = c .before .before .before .before .before .before .before .before .before .args in let len : c .before .before .before .before .before .place .result ≡ columns (a .sheet .now) * a .width = c .before .before .before .before .before .place .ensures ∙ add-zero _ ∙ ap (λ (n : ℕ). n * a .width) (c .before .before .before .before .before .before .columns .ensures) in let at = (c .before .place2 .ensures ∙ add-zero _ ∙ ap (λ (s : ℕ). c .before .before .before .before .loop .j * s) len) in let inside : c .before .before .before .before .loop .j < columns (a .sheet .now) = omega (arith, c .before .before .before .before .before .before .columns .ensures) in (omega (arith, c .before .before .before .before .before .before .columns .ensures, c .before .before .before .before .before .before .before .before .before .pre .few), rowed-room _ _ _ _ _ _ _ (c .before .before .before .before .loop .inv .1) inside at, blank-part _ _ _ _ _ _ _ (c .before .before .before .before .before .before .before .before .before .pre .blank-all) (c .before .before .before .before .loop .inv .1) inside at)
+say-requires c κs =
+    let s = c .before .before .before .before .before .before .before .before .pre in
+    let inside : c .before .before .before .before .loop .j < columns (c .before .before .before .before .before .before .before .before .args .sheet .now) = omega (arith, c .before .before .before .before .before .columns .ensures) in
+    let at = c .before .of-many .ensures in
+    (omega (arith, s .few), rowed-room _ _ _ _ _ _ _ (c .before .before .before .before .loop .inv .1) inside at, blank-part _ _ _ _ _ _ _ (s .blank-all) (c .before .before .before .before .loop .inv .1) inside at)
 
 mul-next : tie.Need-mul-next Inv-loop μ-loop
-mul-next c = omega (arith, c .before .before .before .before .before .before .before .before .before .columns .ensures, c .before .before .before .before .before .before .before .before .before .before .before .before .pre .few)
+mul-next c = omega (arith, c .before .before .before .before .before .before .before .before .columns .ensures, c .before .before .before .before .before .before .before .before .before .before .before .pre .few)
 
 array-set-from-next : tie.Need-array-set-from-next Inv-loop μ-loop
-array-set-from-next c = omega (arith, c .before .before .before .before .before .before .before .before .before .columns .ensures, c .before .before .before .before .before .before .before .before .before .before .before .before .pre .few)
+array-set-from-next c = omega (arith, c .before .before .before .before .before .before .before .before .columns .ensures, c .before .before .before .before .before .before .before .before .before .before .before .pre .few)
 
 add-j : tie.Need-add-j Inv-loop μ-loop
 add-j c = omega arith
@@ -80,14 +76,23 @@ loop-less c = omega arith
 
 loop-again : tie.Need-loop-again Inv-loop μ-loop
 unfolding turned wordsOf columnAt
-loop-again c = let a = c .before .before .before .before .before .before .before .before .before .before .before .before .args in let len : c .before .before .before .before .before .before .before .before .place .result ≡ columns (a .sheet .now) * a .width = c .before .before .before .before .before .before .before .before .place .ensures ∙ add-zero _ ∙ ap (λ (n : ℕ). n * a .width) (c .before .before .before .before .before .before .before .before .before .columns .ensures) in let at = (c .before .before .before .before .place2 .ensures ∙ add-zero _ ∙ ap (λ (s : ℕ). c .before .before .before .before .before .before .before .loop .j * s) len) in let j = c .before .before .before .before .before .before .before .loop .j in let inside : j < columns (a .sheet .now) = omega (arith, c .before .before .before .before .before .before .before .before .before .columns .ensures) in let read = getD-within (a .t3) j _ noColumn (omega (arith, c .before .before .before .before .before .before .before .before .before .before .before .before .pre .few, c .before .before .before .before .before .before .before .before .before .before .before .before .good .1 .1 .0 .1 .0 .1)) in let W = columns (a .sheet .now) * a .width in let part = take (length (c .before .before .before .before .before .before .before .loop .mail) - c .before .before .before .before .place2 .result) (drop (c .before .before .before .before .place2 .result) (c .before .before .before .before .before .before .before .loop .mail)) in (filled-more _ _ _ _ _ _ (c .before .before .before .before .before .before .before .loop .inv .0) inside (c .before .before .say .ensures .0 ∙ ap (spoken (a .sheet .now) (a .width) (j + 1)) read), rowed-more _ _ _ _ _ _ _ _ (c .before .before .before .before .before .before .before .loop .inv .1) inside at (c .before .before .say .ensures .1 ∙ ap (λ (x : Column). listOf (said (words (a .sheet .now) (a .width) (j + 1) x)) W ++ drop W part) (read ∙ ap (λ (k : ℕ). getD (a .t3) k noColumn) {x = j} {y = j + 1 - 1} (omega arith))))
+loop-again c =
+    let a = c .before .before .before .before .before .before .before .before .before .before .before .args in
+    let j = c .before .before .before .before .before .before .before .loop .j in
+    let inside : j < columns (a .sheet .now) = omega (arith, c .before .before .before .before .before .before .before .before .columns .ensures) in
+    let read = getD-within (a .t3) j _ noColumn (omega (arith, c .before .before .before .before .before .before .before .before .before .before .before .pre .few, c .before .before .before .before .before .before .before .before .before .before .before .good .1 .1 .0 .1 .0 .1)) in
+    let w = columns (a .sheet .now) * a .width in
+    let part = take (length (c .before .before .before .before .before .before .before .loop .mail) - c .before .before .before .before .of-many .result) (drop (c .before .before .before .before .of-many .result) (c .before .before .before .before .before .before .before .loop .mail)) in
+    (filled-more _ _ _ _ _ _ (c .before .before .before .before .before .before .before .loop .inv .0) inside (c .before .before .say .ensures .0 ∙ ap (spoken (a .sheet .now) (a .width) (j + 1)) read), rowed-more _ _ _ _ _ _ _ _ (c .before .before .before .before .before .before .before .loop .inv .1) inside (c .before .before .before .before .of-many .ensures) (c .before .before .say .ensures .1 ∙ ap (λ (x : Column). listOf (said (words (a .sheet .now) (a .width) (j + 1) x)) w ++ drop w part) (read ∙ ap (λ (k : ℕ). getD (a .t3) k noColumn) {x = j} {y = j + 1 - 1} (omega arith))))
 
 same-length : tie.Need-same-length Inv-loop μ-loop
 same-length c = c .before .loop .inv .1 .same
 
 returns : tie.Need-returns Inv-loop μ-loop
 unfolding each mail
-returns c = (filled-part _ _ _ _ _ (c .before .loop .inv .0) (omega (arith, c .before .before .before .columns .ensures)), rowed-done _ _ _ _ _ _ (c .before .loop .inv .1) (omega (arith, c .before .before .before .columns .ensures)))
+returns c =
+    let over : columns (c .before .before .before .before .before .args .sheet .now) ≤ c .before .loop .j = omega (arith, c .before .before .columns .ensures) in
+    (filled-part _ _ _ _ _ (c .before .loop .inv .0) over, rowed-done _ _ _ _ _ _ (c .before .loop .inv .1) over)
 
 pub speak-all-spec : {M : Type 1} → statement M
 speak-all-spec =
@@ -96,13 +101,11 @@ speak-all-spec =
     Inv-loop
     μ-loop
     columns-requires
-    place-requires
-    cast-size
     loop-holds
     cast-i
     mul-column
     array-copy-out-column
-    place-requires-2
+    of-many-requires
     mul-say
     sub-say
     part-say-start

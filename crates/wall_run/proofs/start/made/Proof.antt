@@ -1,17 +1,14 @@
 -- `start::made` meets its contract.
 use borrow.Author.Needs.{needs}
-use mathlib.Core.Path.{refl}
 use native.Mathlib.Omega.{arith}
 use native.Mathlib.Nat.{mul-le-mul}
-use Rattle.sheet.specs.Sheet.{recordOf}
+use Rattle.sheet.specs.Sheet.{recordOf, columns, bytes, recordPlace}
 use Rattle.sheet.specs.Laws.{record-place, record-fits}
 use Rattle.wall_run.specs.Run.{made}
 use mathlib.Core.Path.{ap}
-use Prim.Native.Nat.{ℕ, _+_, _*_, _≤_}
+use Prim.Native.Nat.{ℕ, _+_, _*_, _≤_, _-_}
 use lib.ListN.{length, take, drop}
 use Rattle.agreement.specs.Calls.{fresh}
-use Rattle.sheet.specs.Sheet.{columns, bytes, recordPlace, recordOf}
-use Prim.Native.Nat.{ℕ, _+_, _-_, _*_, _≤_}
 use Rattle.wall_run.proofs.start.made.Statement.{statement}
 use Rattle.wall_run.proofs.start.made.Tie as tie
 
@@ -40,14 +37,22 @@ part-fresh-start : tie.Need-part-fresh-start
 part-fresh-start c = search needs
 
 part-fresh-end : tie.Need-part-fresh-end
-part-fresh-end c = let a = c .before .before .before .before .args in let fits : 2 + c .before .before .columns .result + a .i * c .before .bytes .result + c .before .bytes .result ≤ length (a .sheet .now) = rw (c .before .before .columns .ensures, c .before .bytes .ensures) (record-fits (a .sheet .now) (c .before .before .before .before .pre .0) (a .i) (c .before .before .before .before .pre .1)) in omega (arith, c .record-place .ensures, record-place (c .before .before .columns .result) (c .before .bytes .result) (a .i))
+part-fresh-end c =
+    let a = c .before .before .before .before .args in
+    let fits : 2 + c .before .before .columns .result + a .i * c .before .bytes .result + c .before .bytes .result ≤ length (a .sheet .now) = rw (c .before .before .columns .ensures, c .before .bytes .ensures) (record-fits (a .sheet .now) (c .before .before .before .before .pre .0) (a .i) (c .before .before .before .before .pre .1)) in
+    omega (arith, c .record-place .ensures, record-place (c .before .before .columns .result) (c .before .bytes .result) (a .i))
 
 fresh-requires : tie.Need-fresh-requires
 fresh-requires c κs = search needs
 
 returns : tie.Need-returns
 unfolding made recordOf
-returns c = let a = c .before .before .before .before .before .before .before .args in let n = columns (a .sheet .now) in let m = bytes (a .sheet .now) in let at = recordPlace n m (a .i + 1) in rw (c .before .fresh .ensures, c .before .before .before .record-place .ensures, c .before .before .before .before .bytes .ensures, c .before .before .before .before .before .columns .ensures) (ap (λ (k : ℕ). fresh n m (a .i + 1) (take k (drop at (a .sheet .now))) .column) {x = at + m - at} {y = m} (omega arith))
+returns c =
+    let a = c .before .before .before .before .before .before .before .args in
+    let n = columns (a .sheet .now) in
+    let m = bytes (a .sheet .now) in
+    let at = recordPlace n m (a .i + 1) in
+    rw (c .before .fresh .ensures, c .before .before .before .record-place .ensures, c .before .before .before .before .bytes .ensures, c .before .before .before .before .before .columns .ensures) (ap (λ (k : ℕ). fresh n m (a .i + 1) (take k (drop at (a .sheet .now))) .column) {x = at + m - at} {y = m} (omega arith))
 
 pub made-spec : {M : Type 1} → statement M
 made-spec =

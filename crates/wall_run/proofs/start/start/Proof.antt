@@ -2,12 +2,11 @@
 use Prim.Native.Nat.{_-_}
 use native.Mathlib.Omega.{arith}
 use Rattle.lists.specs.Loops.{Filled, filled-none, filled-more, filled-part}
-use lib.ListN.{length-replicate}
+use lib.ListN.{length-replicate, drop, replicate}
 use Rattle.wall_run.specs.Run.{made, start}
 use mathlib.Core.Path.{ap₂, _∙_}
 use mathlib.Core.List.{List, _++_}
 use Rattle.lists.specs.Lists.{listOf}
-use lib.ListN.{drop, replicate, length-replicate}
 use Rattle.agreement.specs.declared.Column.{Column}
 use Rattle.wall_run.proofs.start.start.Statement.{statement}
 use Rattle.wall_run.proofs.start.start.Tie as tie

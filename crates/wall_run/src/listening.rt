@@ -40,6 +40,7 @@ pub(super) fn listen_all(
 {
     let n = sheet::columns(sheet);
     let len = space::of_one(sheet, round.width);
+    // Room for 31 messages of at most 65 values.
     let mut inbox = [65535u16; 2048];
     let mut next = wall;
     for i in 0..n {

@@ -31,6 +31,7 @@ pub(super) fn ended(sheet: &[u8]) -> [Column; 31]
     let m = sheet::bytes(sheet);
     let last = sizes::rounds(n) as u8;
     let line = sizes::line(n, m) as u16;
+    // Room for what 31 columns say to 31, of at most 65 values each.
     let mut mail = [65535u16; 65536];
     let mut wall = start::start(sheet);
     let mut offset = 0u16;

@@ -4,13 +4,12 @@ use mathlib.Core.Logic.{⊎-elim}
 use mathlib.Core.Bool.{Bool, true, false, cond, true≢false}
 use mathlib.Core.List.{List}
 use mathlib.Core.Option.{Option, none, some}
-use Prim.Native.Nat.{ℕ, _+_, _-_, _*_, _/_, _%_, zero, suc, _≤_, _<_}
+use Prim.Native.Nat.{ℕ, _+_, _-_, _/_, _%_, zero, suc, _≤_, _<_}
 use native.Mathlib.Nat.{eq-or-lt-of-le}
 use native.Mathlib.Omega.{arith}
 use lib.Dec.{eqb, ltb}
 use Rattle.block.specs.Block.{part}
 use Rattle.sizes.specs.Sizes.{rounds}
-use Rattle.king.specs.King.{phases}
 use Rattle.agreement.specs.declared.Stage.the-variants.{Speak, Listen}
 use Rattle.agreement.specs.declared.Column.{Column}
 use Rattle.agreement.specs.declared.Kind.{Kind}
@@ -18,7 +17,7 @@ use Rattle.agreement.specs.declared.Kind.the-variants.{Exchange, FirstRe
 use Rattle.agreement.specs.Column.{freshColumn}
 use Rattle.agreement.specs.Parts.{withStage, withBytes, withProposal, withAgreements, withReports, withGrade, withVote, withKept}
 use Rattle.agreement.specs.Rounds.{goesOn, endsOn, outcomeOf, hears, kingRound, laterRound, kindOf}
-use Rattle.agreement.specs.Kinds.{kind-later, ends, rounds-of, goes-on}
+use Rattle.agreement.specs.Kinds.{past-three, ends, rounds-of, goes-on}
 
 -- a column is of n columns and m bytes, has the number `own` and holds the record `bytes`
 pub record Fixed (n m own : ℕ) (bytes : List ℕ) (n′ m′ own′ : ℕ) (bytes′ : List ℕ) : Type 0 where
@@ -82,11 +81,11 @@ module _ (n m own : ℕ) (bytes : List ℕ) (inbox : ℕ → List ℕ) where
 
   -- the grade with which it leaves dispersal is its grade ever after
   pub grade-lasts : (q : ℕ) → 3 ≤ q → course q .grade ≡ course 3 .grade
-  unfolding course withStage
+  unfolding course withStage kindOf
   grade-lasts zero h = absurd (omega arith)
   grade-lasts (suc q) h =
       ⊎-elim (λ (e : 3 ≡ suc q). ap (λ (r : ℕ). course r .grade) (sym e))
       (λ (l : 3 < suc q).
-      ap (λ (kind : Kind). hears kind (suc q) (listening q) (inbox (suc q)) .grade) (kind-later n (suc q) l)
-      ∙ later-grade (3 * phases n) (suc q - 4) (suc q) (listening q) (inbox (suc q)) ∙ grade-lasts q (omega arith))
+      ap (λ (kind : Kind). hears kind (suc q) (listening q) (inbox (suc q)) .grade) (past-three n (suc q) l _)
+      ∙ later-grade _ (suc q - 4) (suc q) (listening q) (inbox (suc q)) ∙ grade-lasts q (omega arith))
       (eq-or-lt-of-le h)

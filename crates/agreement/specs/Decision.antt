@@ -20,9 +20,10 @@ use Rattle.king.specs.Phases.{sound-king, agreement, validity}
 use Rattle.dispersal.specs.Run.{keeps}
 use Rattle.dissemination.specs.Run.{inputs}
 use Rattle.agreement.specs.Rounds.{votesOne, spreads, firstVote}
+use Rattle.agreement.specs.Course.{grade-lasts}
 use Rattle.agreement.specs.Courses.{Courses, state, places}
 use Rattle.agreement.specs.Dispersal.{course-graded, grade-small}
-use Rattle.agreement.specs.Phases.{votes, first-vote, phase, grade-stays}
+use Rattle.agreement.specs.Phases.{base, votes, first-vote, phase}
 use Rattle.agreement.specs.Dissemination.{has, decides, decides-none, decides-record}
 
 pub record Decision {n m : ℕ} {H : ℕ → Bool} {held : ℕ → List ℕ} {inbox : ℕ → ℕ → List ℕ} (C : Courses n m H held inbox) : Type 0 where
@@ -73,7 +74,7 @@ module _ {n m : ℕ} {H : ℕ → Bool} {held : ℕ → List ℕ} {inbox : ℕ �
     -- who has an input left with grade 1 or 2, and the other way round
     has-is : (i : ℕ) → Sound n H i → has C i ≡ leb 1 (g i)
     unfolding spreads votesOne
-    has-is i si = rw (ones i si, grade-stays C i (phases n) (omega arith))
+    has-is i si = rw (ones i si, grade-lasts n m i (held i) (inbox i) (base (phases n)) (omega arith))
 
     one-record : (j : ℕ) → Sound n H j → T (has C j) → places C j ≡ places C c
     one-record j sj h =

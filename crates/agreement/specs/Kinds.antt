@@ -21,12 +21,8 @@ rounds-of n = omega (arith, rounds-are n)
 
 module _ (n round : ℕ) where
   -- past the third round
-  past-three : 4 ≤ round → (kind : Kind) → cond (eqb round 1) Exchange (cond (eqb round 2) FirstReport (cond (eqb round 3) SecondReport kind)) ≡ kind
+  pub past-three : 4 ≤ round → (kind : Kind) → cond (eqb round 1) Exchange (cond (eqb round 2) FirstReport (cond (eqb round 3) SecondReport kind)) ≡ kind
   past-three h kind = simp (ne-eqb round 1 (omega arith), ne-eqb round 2 (omega arith), ne-eqb round 3 (omega arith))
-
-  pub kind-later : 4 ≤ round → kindOf n round ≡ laterRound (3 * phases n) (round - 4)
-  unfolding kindOf
-  kind-later h = past-three h (laterRound (3 * phases n) (round - 4))
 
   -- the 3(t + 1) rounds from the fourth on are the king's
   in-phase : (q : ℕ) → q < 3 * phases n → round ≡ q + 4 → kindOf n round ≡ kingRound q

@@ -1,8 +1,8 @@
--- The king rounds of the courses are t + 1 phases of the king rule, and leave the grades as they are.
+-- The king rounds of the courses are t + 1 phases of the king rule.
 use mathlib.Core.Path.{_≡_, refl, sym, ap, _∙_, subst, fun-ext}
 use mathlib.Core.Bool.{Bool}
 use mathlib.Core.List.{List, [], _∷_}
-use Prim.Native.Nat.{ℕ, zero, suc, _*_, _≤_, _<_}
+use Prim.Native.Nat.{ℕ, suc, _*_, _<_}
 use native.Mathlib.Omega.{arith}
 use Rattle.sizes.specs.Laws.{values-one}
 use Rattle.messages.specs.Messages.{toAll}
@@ -126,22 +126,9 @@ module _ {n m : ℕ} {H : ℕ → Bool} {held : ℕ → List ℕ} {inbox : ℕ �
     course-phase : Phase n H (suc p) (votes p) (λ i. state C i r₃ .vote)
     course-phase = subst (Phase n H (suc p) (votes p)) (sym (fun-ext crowned-is)) (K.calls-phase n (suc p) (votes p) (of C r₁) (of C r₂) (of C r₃) H (C .wall) votes-sent proposals-sent word-sent)
 
-    -- which leaves the grade as it is
-    grade-kept : (i : ℕ) → state C i r₃ .grade ≡ state C i (base p) .grade
-    unfolding r₁ r₂ r₃ hears goesOn withStage withProposal withVote
-    grade-kept i =
-        ap (λ (c : Column). c .grade) (next C i r₂ (King (suc p)) is-king) ∙ ap (λ (c : Column). c .grade) (next C i r₁ Proposals is-proposals)
-        ∙ ap (λ (c : Column). c .grade) (next C i (base p) Votes is-votes)
-
   later : (p : ℕ) → base (suc p) ≡ suc (suc (suc (base p)))
   later p = omega arith
 
   pub phase : (p : ℕ) → p < phases n → Phase n H (suc p) (votes p) (votes (suc p))
   unfolding r₃
   phase p h = subst (λ (q : ℕ). Phase n H (suc p) (votes p) (λ i. state C i q .vote)) (sym (later p)) (course-phase p h)
-
-  -- the grade stays through the phases
-  pub grade-stays : (i p : ℕ) → p ≤ phases n → state C i (base p) .grade ≡ state C i 3 .grade
-  unfolding r₃
-  grade-stays i zero h = refl
-  grade-stays i (suc p) h = ap (λ (q : ℕ). state C i q .grade) (later p) ∙ grade-kept p h i ∙ grade-stays i p (omega arith)

@@ -18,8 +18,9 @@ mailed n width mail i j k = said mail (((j - 1) * n + (i - 1)) * width + k)
 unfoldable pub lied : List ℕ → Round → ℕ → ℕ → ℕ → ℕ
 lied sheet round i j k = lineValue (round .line) sheet (unsoundTo sheet (j - 1)) i (round .offset + k)
 
+-- value k of what column j sends column i
 unfoldable pub sent : List ℕ → Round → List ℕ → ℕ → ℕ → ℕ → ℕ
-sent sheet round mail i j = cond (sound sheet j) (mailed (columns sheet) (round .width) mail i j) (lied sheet round i j)
+sent sheet round mail i j k = cond (sound sheet j) (mailed (columns sheet) (round .width) mail i j k) (lied sheet round i j k)
 
 -- what column i gets: one message from each, by column number
 unfoldable pub inbox : List ℕ → Round → List ℕ → ℕ → List ℕ

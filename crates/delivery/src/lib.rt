@@ -7,7 +7,7 @@ ghost use lib.ListN.{length, drop};
 ghost use Rattle.lists.specs.Lists.{listOf};
 ghost use Rattle.messages.specs.Messages.{refusal, unlessRefused};
 ghost use Rattle.sheet.specs.Sheet.{columns, unsoundTo};
-ghost use Rattle.delivery.specs.Delivery.{mailed as mailedOf, lied as liedOf, sent as sentOf, inbox as inboxOf};
+ghost use Rattle.delivery.specs.Delivery.{mailed as mailedOf, sent as sentOf, inbox as inboxOf};
 
 // A round: how many values a line has for each receiver, how many of them belong to earlier rounds, and the values of one message.
 pub struct Round {
@@ -25,45 +25,33 @@ fn mailed(n: u8, width: u16, mail: &[u16], to: u8, j: u8, k: u16) -> u16
     messages::value(mail, at)
 }
 
-// The message of column j + 1 to column `to` + 1, from the mail.
-fn copy_mail(n: u8, width: u16, mail: &[u16], to: u8, j: u8, part: &mut [u16])
-    requires { ⌜ width ≤ length (now part) ⌝ }
-    ensures { λ _. ⌜ now (part .exit) ≡ listOf (mailedOf n width (now (mail .entry)) (to + 1) (j + 1)) width ++ drop width (now (part .entry)) ⌝ }
+// Value k of what column j + 1 sends column `to` + 1; `earlier` of the columns before it are unsound.
+fn sent(sheet: &[u8], round: Round, mail: &[u16], to: u8, j: u8, earlier: u8, k: u16) -> u16
+    requires { ⌜ (j < 255) × (earlier ≡ unsoundTo (now sheet) j) ⌝ }
+    ensures { λ r. ⌜ r ≡ sentOf (now (sheet .entry)) round (now (mail .entry)) (to + 1) (j + 1) k ⌝ }
 {
-    for k in 0..width {
-        let at = k as usize;
-        part[at] = mailed(n, width, mail, to, j, k);
+    if sheet::sound(sheet, j + 1) {
+        return mailed(sheet::columns(sheet), round.width, mail, to, j, k);
     }
-}
-
-// The same of an unsound column, before which `earlier` columns are unsound, from its line.
-fn copy_line(sheet: &[u8], round: Round, to: u8, j: u8, earlier: u8, part: &mut [u16])
-    requires { ⌜ (round .width ≤ length (now part)) × (earlier ≡ unsoundTo (now sheet) j) ⌝ }
-    ensures { λ _. ⌜ now (part .exit) ≡ listOf (liedOf (now (sheet .entry)) round (to + 1) (j + 1)) (round .width) ++ drop (round .width) (now (part .entry)) ⌝ }
-{
-    let width = round.width;
-    for k in 0..width {
-        let at = k as usize;
-        part[at] = sheet::line_value(
-            sheet,
-            round.line,
-            earlier,
-            to,
-            round.offset as u32 + k as u32,
-        );
-    }
+    sheet::line_value(
+        sheet,
+        round.line,
+        earlier,
+        to,
+        round.offset as u32 + k as u32,
+    )
 }
 
 // The message of column j + 1 to column `to` + 1, written to the front of a part of the inbox.
 fn copy(sheet: &[u8], round: Round, mail: &[u16], to: u8, j: u8, earlier: u8, part: &mut [u16])
-    requires { ⌜ (round .width ≤ length (now part)) × (earlier ≡ unsoundTo (now sheet) j) × (j < 255) ⌝ }
+    requires { ⌜ (j < 255) × (earlier ≡ unsoundTo (now sheet) j) × (round .width ≤ length (now part)) ⌝ }
     ensures { λ _. ⌜ now (part .exit) ≡ listOf (sentOf (now (sheet .entry)) round (now (mail .entry)) (to + 1) (j + 1)) (round .width) ++ drop (round .width) (now (part .entry)) ⌝ }
 {
-    if sheet::sound(sheet, j + 1) {
-        copy_mail(sheet::columns(sheet), round.width, mail, to, j, part);
-        return;
+    let width = round.width;
+    for k in 0..width {
+        let at = k as usize;
+        part[at] = sent(sheet, round, mail, to, j, earlier, k);
     }
-    copy_line(sheet, round, to, j, earlier, part);
 }
 
 // What column `to` + 1 gets in the round, one message from each column; 4 for an inbox of another length.

@@ -1,49 +1,60 @@
 -- `copy` meets its contract.
-use borrow.Author.Needs.{needs}
-use mathlib.Core.Path.{sym, _∙_}
+use Prim.Native.Nat.{_+_, _-_}
+use native.Mathlib.Omega.{arith}
+use Rattle.lists.specs.Loops.{Filled, filled-none, filled-more, filled-part}
 use Rattle.delivery.specs.Delivery.{sent}
 use Rattle.delivery.proofs.copy.Statement.{statement}
 use Rattle.delivery.proofs.copy.Tie as tie
 
-add-sound : tie.Need-add-sound
-add-sound c = search needs
+abbrev Inv-loop : tie.InvT-loop
+Inv-loop sheet round mail to j earlier part₀ width k₀ part k = Filled (sent sheet round mail (to + 1) (j + 1)) width part₀ part k
 
-sound-requires : tie.Need-sound-requires
-sound-requires c κs = search needs
+abbrev μ-loop : tie.MeasureT-loop
+μ-loop sheet round mail to j earlier part₀ width k₀ part k = width - k
 
-columns-requires : tie.Need-columns-requires
-columns-requires c κs = search needs
+loop-holds : tie.Need-loop-holds Inv-loop μ-loop
+loop-holds c = filled-none _ _ _ (c .before .before .before .pre .2)
 
-copy-mail-requires : tie.Need-copy-mail-requires
-copy-mail-requires c κs = search needs
+cast-at : tie.Need-cast-at Inv-loop μ-loop
+cast-at c = omega arith
 
-same-length : tie.Need-same-length
-same-length c = search needs
+sent-requires : tie.Need-sent-requires Inv-loop μ-loop
+sent-requires c κs = (c .before .before .before .before .before .pre .0, c .before .before .before .before .before .pre .1)
 
-returns : tie.Need-returns
-unfolding sent
-returns c = rw (sym (c .before .before .before .before .before .before .sound .ensures) ∙ c .before .before .before .before .before .if1 .taken) (rw (c .before .before .before .before .columns .ensures) at (c .before .before .copy-mail .ensures))
+mul-part : tie.Need-mul-part Inv-loop μ-loop
+mul-part c = omega (arith, c .before .before .loop .inv .size, c .before .before .loop .inv .same, c .before .before .before .before .before .before .good)
 
-copy-line-requires : tie.Need-copy-line-requires
-copy-line-requires c κs = search needs
+slice-write-part : tie.Need-slice-write-part Inv-loop μ-loop
+slice-write-part c = omega (arith, c .before .before .loop .inv .size, c .before .before .loop .inv .same)
 
-same-length-2 : tie.Need-same-length-2
-same-length-2 c = search needs
+add-k : tie.Need-add-k Inv-loop μ-loop
+add-k c = omega arith
 
-returns-2 : tie.Need-returns-2
-unfolding sent
-returns-2 c = rw (sym (c .before .before .before .before .before .sound .ensures) ∙ c .before .before .before .before .if1 .left) (c .before .before .copy-line .ensures)
+loop-less : tie.Need-loop-less Inv-loop μ-loop
+loop-less c = omega arith
+
+loop-again : tie.Need-loop-again Inv-loop μ-loop
+loop-again c = filled-more _ _ _ _ _ _ (c .before .before .loop .inv) (omega arith) (c .sent .ensures)
+
+same-length : tie.Need-same-length Inv-loop μ-loop
+same-length c = c .before .loop .inv .same
+
+returns : tie.Need-returns Inv-loop μ-loop
+returns c = filled-part _ _ _ _ _ (c .before .loop .inv) (omega arith)
 
 pub copy-spec : {M : Type 1} → statement M
 copy-spec =
     tie.close
     (tie.spec
-    add-sound
-    sound-requires
-    columns-requires
-    copy-mail-requires
+    Inv-loop
+    μ-loop
+    loop-holds
+    cast-at
+    sent-requires
+    mul-part
+    slice-write-part
+    add-k
+    loop-less
+    loop-again
     same-length
-    returns
-    copy-line-requires
-    same-length-2
-    returns-2)
+    returns)

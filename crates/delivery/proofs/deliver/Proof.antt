@@ -49,7 +49,7 @@ part-copy-end c = omega arith
 
 copy-requires : tie.Need-copy-requires Inv-loop μ-loop
 unfolding unsoundTo
-copy-requires c κs = (rowed-room _ _ _ _ _ _ _ (c .before .before .before .loop .inv .0) (omega arith) (omega (arith, c .before .place .ensures)), c .before .before .before .loop .inv .1 .holds, omega arith)
+copy-requires c κs = (omega arith, c .before .before .before .loop .inv .1 .holds, rowed-room _ _ _ _ _ _ _ (c .before .before .before .loop .inv .0) (omega arith) (omega (arith, c .before .place .ensures)))
 
 add-one-if-unsound : tie.Need-add-one-if-unsound Inv-loop μ-loop
 add-one-if-unsound c = omega arith

@@ -1,9 +1,10 @@
 -- `mailed` meets its contract.
 use borrow.Author.Needs.{needs}
-use mathlib.Core.Path.{refl}
+use mathlib.Core.Path.{_≡_, refl}
 use native.Mathlib.Nat.{mul-le-mul}
 use native.Mathlib.Omega.{arith}
-use Rattle.delivery.specs.Laws.{mailed-at}
+use Rattle.delivery.specs.Delivery.{mailed}
+use Prim.Native.Nat.{_+_, _-_}
 use Rattle.delivery.proofs.mailed.Statement.{statement}
 use Rattle.delivery.proofs.mailed.Tie as tie
 
@@ -20,7 +21,12 @@ value-requires : tie.Need-value-requires
 value-requires c κs = search needs
 
 returns : tie.Need-returns
-returns c = rw (mailed-at, c .value .ensures, c .before .place .ensures) refl
+unfolding mailed
+returns c =
+    let a = c .before .before .before .args in
+    let to : a .to + 1 - 1 ≡ a .to = omega arith in
+    let j : a .j + 1 - 1 ≡ a .j = omega arith in
+    rw (to, j, c .value .ensures, c .before .place .ensures) refl
 
 pub mailed-spec : {M : Type 1} → statement M
 mailed-spec = tie.close (tie.spec place-requires mul-at add-at value-requires returns)

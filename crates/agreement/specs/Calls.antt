@@ -1,12 +1,13 @@
--- The definitions of the calls: for every input the refusal, the state after the call and the lent slice after it. Document 01, "Refusals
--- from the input" and "Refusals from the state".
+-- The definitions of the calls, in an agreement and in a posting: for every input the refusal, the state after the call and the lent slice
+-- after it. Document 01, "Refusals from the input" and "Refusals from the state".
 use mathlib.Core.Bool.{cond}
 use mathlib.Core.List.{List, []}
 use mathlib.Core.Option.{Option, none, some}
 use Prim.Native.Nat.{ℕ}
 use lib.Dec.{eqb}
 use lib.ListN.{length, take, replicate}
-use Rattle.sizes.specs.Sizes.{values, refusal as refusalOfSizes}
+use Rattle.sizes.specs.declared.Protocol.{Protocol}
+use Rattle.sizes.specs.Sizes.{valuesIn, refusal as refusalOfSizes, beside}
 use Rattle.messages.specs.Messages.{refusal, unlessRefused}
 use Rattle.agreement.specs.declared.Outcome.{Outcome}
 use Rattle.agreement.specs.declared.Outcome.the-variants.{Nothing, Record}
@@ -19,9 +20,9 @@ use Rattle.agreement.specs.declared.Answered.{Answered}
 use Rattle.agreement.specs.declared.Reply.{Reply}
 use Rattle.agreement.specs.declared.Reply.the-variants as R
 use Rattle.agreement.specs.declared.Replied.{Replied}
-use Rattle.agreement.specs.Column.{freshColumn, fits}
+use Rattle.agreement.specs.Column.{freshColumn, freshIn, fits}
 use Rattle.agreement.specs.Parts.{withStage}
-use Rattle.agreement.specs.Rounds.{kindOf, outgoing, hears}
+use Rattle.agreement.specs.Rounds.{outgoing, listens}
 
 -- document 01's number of an answer, 0 for none, and the answer of a number
 unfoldable pub refusalOf : Answer → ℕ
@@ -37,16 +38,20 @@ answered why done before = record { answer = answerOf why; column = cond (eqb wh
 
 -- FRESH
 
--- 1, 2, 3 for the sizes and the own number, 4 for a record not of m bytes
-unfoldable pub freshRefusal : ℕ → ℕ → ℕ → ℕ → ℕ
-freshRefusal n m own len = refusal (refusalOfSizes n m own) 1 m len
+-- the refusal `why`, or where there is none the next
+unfoldable pub orElse : ℕ → ℕ → ℕ
+orElse why next = cond (eqb why 0) next why
+
+-- 1, 2, 3 for the sizes, the own and the poster's number, 4 for a record not of m bytes
+unfoldable pub freshRefusal : Protocol → ℕ → ℕ → ℕ → ℕ → ℕ
+freshRefusal p n m own len = refusal (orElse (refusalOfSizes n m own) (refusalOfSizes n m (beside p))) 1 m len
 
 -- what stands beside a refusal: a column of no wall, which every later call refuses with 11
 unfoldable pub noColumn : Column
 noColumn = freshColumn 0 0 0 []
 
-unfoldable pub fresh : ℕ → ℕ → ℕ → List ℕ → Answered
-fresh n m own bytes = answered (freshRefusal n m own (length bytes)) (freshColumn n m own bytes) noColumn
+unfoldable pub fresh : Protocol → ℕ → ℕ → ℕ → List ℕ → Answered
+fresh p n m own bytes = answered (freshRefusal p n m own (length bytes)) (freshIn p n m own bytes) noColumn
 
 -- REFUSALS FROM THE STATE. "Order 11, 10, 7, 8, 9; all before 4."
 
@@ -75,37 +80,37 @@ whenAsked (Listen round) = 9
 whenAsked (Ended outcome) = 0
 
 -- 11 before the refusal that the stage gives
-unfoldable pub inState : Column → ℕ → ℕ
-inState c why = cond (fits c) why 11
+unfoldable pub inState : Protocol → Column → ℕ → ℕ
+inState p c why = cond (fits p c) why 11
 
 -- and 4 after it, for a slice of `len` values that has not the length of the round's messages
-unfoldable pub inRound : Column → ℕ → ℕ → ℕ
-inRound c why len = refusal (inState c why) (c .n) (values (c .n) (c .m) (roundOf (c .stage))) len
+unfoldable pub inRound : Protocol → Column → ℕ → ℕ → ℕ
+inRound p c why len = refusal (inState p c why) (c .n) (valuesIn p (c .n) (c .m) (roundOf (c .stage))) len
 
 -- SPEAK
 
-unfoldable pub speakRefusal : Column → ℕ → ℕ
-speakRefusal c len = inRound c (whenSpeaking (c .stage)) len
+unfoldable pub speakRefusal : Protocol → Column → ℕ → ℕ
+speakRefusal p c len = inRound p c (whenSpeaking (c .stage)) len
 
-unfoldable pub speak : Column → List ℕ → Answered
-speak c out = answered (speakRefusal c (length out)) (withStage (Listen (roundOf (c .stage))) c) c
+unfoldable pub speak : Protocol → Column → List ℕ → Answered
+speak p c out = answered (speakRefusal p c (length out)) (withStage (Listen (roundOf (c .stage))) c) c
 
 -- the lent slice after the call
-unfoldable pub written : Column → List ℕ → List ℕ
-written c out = unlessRefused (speakRefusal c (length out)) (outgoing c (roundOf (c .stage))) out
+unfoldable pub written : Protocol → Column → List ℕ → List ℕ
+written p c out = unlessRefused (speakRefusal p c (length out)) (outgoing p c (roundOf (c .stage))) out
 
 -- LISTEN
 
-unfoldable pub listenRefusal : Column → ℕ → ℕ
-listenRefusal c len = inRound c (whenListening (c .stage)) len
+unfoldable pub listenRefusal : Protocol → Column → ℕ → ℕ
+listenRefusal p c len = inRound p c (whenListening (c .stage)) len
 
-unfoldable pub listen : Column → List ℕ → Answered
-listen c inbox = answered (listenRefusal c (length inbox)) (hears (kindOf (c .n) (roundOf (c .stage))) (roundOf (c .stage)) c inbox) c
+unfoldable pub listen : Protocol → Column → List ℕ → Answered
+listen p c inbox = answered (listenRefusal p c (length inbox)) (listens p (roundOf (c .stage)) c inbox) c
 
 -- THE OUTCOME
 
-unfoldable pub outcomeRefusal : Column → ℕ
-outcomeRefusal c = inState c (whenAsked (c .stage))
+unfoldable pub outcomeRefusal : Protocol → Column → ℕ
+outcomeRefusal p c = inState p c (whenAsked (c .stage))
 
 -- what the column ended on; nothing before the end, where the call is refused
 unfoldable pub ending : Stage → Outcome
@@ -113,8 +118,8 @@ ending (Speak round) = Nothing
 ending (Listen round) = Nothing
 ending (Ended outcome) = outcome
 
-unfoldable pub replyOf : Column → Reply
-replyOf c = cond (eqb (outcomeRefusal c) 0) (R.Ended (ending (c .stage))) (R.Refused (outcomeRefusal c))
+unfoldable pub replyOf : Protocol → Column → Reply
+replyOf p c = cond (eqb (outcomeRefusal p c) 0) (R.Ended (ending (c .stage))) (R.Refused (outcomeRefusal p c))
 
 -- "32 record bytes, zeros past m or without a record"
 unfoldable pub shown : Reply → List ℕ → List ℕ
@@ -122,8 +127,15 @@ shown (R.Ended Nothing) bytes = replicate 32 0
 shown (R.Ended Record) bytes = bytes
 shown (R.Refused why) bytes = replicate 32 0
 
-unfoldable pub outcome : Column → Replied
-outcome c = record { reply = replyOf c; bytes = shown (replyOf c) (c .bytes); column = c }
+unfoldable pub outcome : Protocol → Column → Replied
+outcome p c = record { reply = replyOf p c; bytes = shown (replyOf p c) (c .bytes); column = c }
+
+-- of a posting: "at dispersal grade 2, grade 2 with what decoding gave, record or none; else grade 1 if decoding gave a record; else none at
+-- grade 0"
+unfoldable pub gradeIn : ℕ → Reply → ℕ
+gradeIn grade (R.Ended Nothing) = cond (eqb grade 2) 2 0
+gradeIn grade (R.Ended Record) = cond (eqb grade 2) 2 1
+gradeIn grade (R.Refused why) = 0
 
 -- document 01's number of a reply, 0 for none
 unfoldable pub refusalIn : Reply → ℕ

@@ -8,25 +8,51 @@ use Prim.Native.Nat.{ℕ, zero, suc, _≤_, _<_}
 use native.Mathlib.Omega.{arith}
 use native.Mathlib.Decide.{decLe}
 use borrow.Author.Tests.{eqb-true, eqb-false}
-use lib.Dec.{T, eqb, leb, leb→le, eqb→eq}
-use Rattle.lists.specs.Lists.{count, same}
-use Rattle.lists.specs.Tests.{eq→eqb, conj, and-left, and-both, by-contra}
-use Rattle.lists.specs.Entries.{same-eq, same-refl}
+use lib.Dec.{T, eqb, leb, eqb→eq}
+use Rattle.lists.specs.Lists.{count}
+use Rattle.lists.specs.Tests.{eq→eqb, conj, and-left, and-both}
 use Rattle.lists.specs.Count.{mono, find, Found, count-pos}
-use Rattle.sizes.specs.Sizes.{faults}
+use Rattle.sizes.specs.declared.Protocol.the-variants.{Agreement}
+use Rattle.sizes.specs.Sizes.{faults, rounds}
 use Rattle.messages.specs.Wall.{Sound, holds}
 use Rattle.king.specs.King.{phases}
 use Rattle.king.specs.Phases.{sound-king, agreement, validity}
-use Rattle.dispersal.specs.Run.{keeps}
-use Rattle.dissemination.specs.Run.{inputs}
-use Rattle.agreement.specs.Rounds.{votesOne, spreads, firstVote}
-use Rattle.agreement.specs.Course.{grade-lasts}
+use Rattle.dispersal.specs.Run.{Graded, keeps}
+use Rattle.agreement.specs.declared.Column.{Column}
+use Rattle.agreement.specs.Column.{freshColumn, freshIn}
+use Rattle.agreement.specs.Rounds.{voteIn, firstVote}
+use Rattle.agreement.specs.Kinds.{rounds-of}
+use Rattle.agreement.specs.Course.{course}
 use Rattle.agreement.specs.Courses.{Courses, state, places}
-use Rattle.agreement.specs.Dispersal.{course-graded, grade-small}
-use Rattle.agreement.specs.Phases.{base, votes, first-vote, phase}
-use Rattle.agreement.specs.Dissemination.{has, decides, decides-none, decides-record}
+use Rattle.agreement.specs.Dispersal as D
+use Rattle.agreement.specs.Dissemination as E
+use Rattle.agreement.specs.Agreeing.{base, disperses, disseminates, record-lasts, grade-lasts}
+use Rattle.agreement.specs.Phases.{votes, first-vote, phase}
 
-pub record Decision {n m : ℕ} {H : ℕ → Bool} {held : ℕ → List ℕ} {inbox : ℕ → ℕ → List ℕ} (C : Courses n m H held inbox) : Type 0 where
+module _ {n m : ℕ} {H : ℕ → Bool} {held : ℕ → List ℕ} {inbox : ℕ → ℕ → List ℕ} (C : Courses Agreement n m H held inbox) where
+  -- the records that the columns hold before dispersal and before dissemination are those of the start
+  held-first : (i : ℕ) → state C i 0 .bytes ≡ places C i
+  unfolding course freshIn freshColumn
+  held-first i = refl
+
+  pub held-last : (i : ℕ) → state C i (base (phases n)) .bytes ≡ places C i
+  held-last i = record-lasts n m i (held i) (inbox i) (base (phases n)) (omega (arith, rounds-of n))
+
+  -- THEOREM 3.3, of the columns' states
+  pub graded : Graded n H (places C) (λ i. state C i 3 .grade)
+  graded = D.course-graded C 0 (disperses n m) (places C) held-first (C .records)
+
+  grade-small : (i : ℕ) → state C i 3 .grade < 3
+  grade-small = D.grade-small C 0 (disperses n m) (places C) held-first
+
+  -- column i, to listen in the last round, and what it ends on
+  abbrev pub lastly : ℕ → Column
+  lastly = E.lastly C (base (phases n)) (disseminates n m) (places C) held-last
+
+  abbrev pub decides : ℕ → Option (List ℕ)
+  decides = E.decides C (base (phases n)) (disseminates n m) (places C) held-last
+
+pub record Decision {n m : ℕ} {H : ℕ → Bool} {held : ℕ → List ℕ} {inbox : ℕ → ℕ → List ℕ} (C : Courses Agreement n m H held inbox) : Type 0 where
   -- the wall's outcome, a record in its 32 places
   pub decided : Option (List ℕ)
   pub same-outcome : (i : ℕ) → Sound n H i → decides C i ≡ decided
@@ -45,7 +71,7 @@ vote-one : firstVote 2 ≡ 1
 unfolding firstVote
 vote-one = refl
 
-module _ {n m : ℕ} {H : ℕ → Bool} {held : ℕ → List ℕ} {inbox : ℕ → ℕ → List ℕ} (C : Courses n m H held inbox) where
+module _ {n m : ℕ} {H : ℕ → Bool} {held : ℕ → List ℕ} {inbox : ℕ → ℕ → List ℕ} (C : Courses Agreement n m H held inbox) where
   -- the grade with which column i leaves
   abbrev g : ℕ → ℕ
   g i = state C i 3 .grade
@@ -71,61 +97,47 @@ module _ {n m : ℕ} {H : ℕ → Bool} {held : ℕ → List ℕ} {inbox : ℕ �
 
   -- all votes after the phases are 1, and column c left with grade 2: all end on its record
   module _ (ones : (i : ℕ) → Sound n H i → votes C (phases n) i ≡ 1) (c : ℕ) (sc : Sound n H c) (two : g c ≡ 2) where
-    -- who has an input left with grade 1 or 2, and the other way round
-    has-is : (i : ℕ) → Sound n H i → has C i ≡ leb 1 (g i)
-    unfolding spreads votesOne
-    has-is i si = rw (ones i si, grade-lasts n m i (held i) (inbox i) (base (phases n)) (omega arith))
-
-    one-record : (j : ℕ) → Sound n H j → T (has C j) → places C j ≡ places C c
-    one-record j sj h =
-        same-eq (places C j) (places C c) (by-contra (same (places C j) (places C c)) (λ no.
-        omega (
-          arith,
-          leb→le 1 (g j) (rw (has-is j sj) at h),
-          course-graded C .others c j sc sj two (λ e. no (rw e (same-refl (places C c)))),
-        )))
-
-    many-inputs : suc (faults n) ≤ count (inputs H (has C) (places C) (places C c)) n
-    many-inputs =
-        omega (
-          arith,
-          course-graded C .enough c sc two,
-          mono (keeps H (places C) g (places C c)) (inputs H (has C) (places C) (places C c)) n (λ i l u h.
-              let si : Sound n H i = (l, u, search conj) in
-              let one : T (leb 1 (g i)) = search conj in
-              let held-it : T (same (places C i) (places C c)) = search conj in
-              and-both (holds H (places C) (places C c) i) (has C i) (and-both (H i) (same (places C i) (places C c)) (si .2) held-it) (rw (has-is i si) one)),
-        )
-
+    -- at least t + 1 sound columns held it
     holders : suc (faults n) ≤ count (holds H (places C) (places C c)) n
     holders =
         omega (
           arith,
-          many-inputs,
-          mono (inputs H (has C) (places C) (places C c)) (holds H (places C) (places C c)) n (λ i l u h. and-left (holds H (places C) (places C c) i) (has C i) h),
+          graded C .enough c sc two,
+          mono (keeps H (places C) g (places C c)) (holds H (places C) (places C c)) n (λ i l u h. and-left (holds H (places C) (places C c) i) (leb 1 (g i)) h),
         )
+
+    -- and all end on it
+    ended : (i : ℕ) → Sound n H i → decides C i ≡ some (places C c)
+    unfolding voteIn
+    ended =
+        E.grade-two-decides C (base (phases n)) (disseminates n m) (places C) (held-last C) ones g (λ i. grade-lasts n m i (held i) (inbox i) (base (phases n)) (omega arith)) (graded C) c sc two
+        (C .records c sc)
 
     on-record : Decision C
     on-record =
         record {
           decided = some (places C c);
-          same-outcome = decides-record C ones (places C c) (C .records c sc) many-inputs one-record;
+          same-outcome = ended;
           many-held = λ r e.
               let is : places C c ≡ r = cc in subst (λ (r : List ℕ). suc (faults n) ≤ count (holds H (places C) r) n) is holders;
           all-alike = λ r all. ap {B = Option (List ℕ)} some (all c sc);
         }
 
   -- all votes after the phases are 0: all end on none, and not all held one record
+  decides-zero : (i : ℕ) → votes C (phases n) i ≡ 0 → decides C i ≡ none
+  unfolding voteIn
+  decides-zero i e = E.decides-none C (base (phases n)) (disseminates n m) (places C) (held-last C) i e
+
   on-none : ((i : ℕ) → Sound n H i → votes C (phases n) i ≡ 0) → Decision C
   on-none zeros =
       record {
         decided = none;
-        same-outcome = λ i si. decides-none C i (zeros i si);
+        same-outcome = λ i si. decides-zero i (zeros i si);
         many-held = λ r e.
             let z : _≡_ {A = ℕ} 0 1 = cc in absurd (omega arith);
         all-alike = λ r all.
             let (k, l, sk) = sound-king (C .wall) in
-            let ones = validity (C .wall) (votes C) (phase C) 1 (omega arith) (λ i si. start-one i (course-graded C .validity r all i si)) in
+            let ones = validity (C .wall) (votes C) (phase C) 1 (omega arith) (λ i si. start-one i (graded C .validity r all i si)) in
             absurd (omega (arith, zeros (suc k) sk, ones (suc k) sk));
       }
 

@@ -1,48 +1,100 @@
--- Rounds 1 to 3 of the courses are a run of graded dispersal, so Theorem 3.3 speaks of the columns' states.
-use mathlib.Core.Path.{_≡_, refl, sym, subst, fun-ext}
+-- Three rounds of the courses that are an exchange, first and second reports are a run of graded dispersal, so Theorem 3.3 speaks of the
+-- columns' states.
+use mathlib.Core.Path.{_≡_, refl, sym, ap, subst, _∙_, fun-ext}
 use mathlib.Core.Bool.{Bool}
 use mathlib.Core.List.{List, [], _∷_}
-use Prim.Native.Nat.{ℕ, _*_, _<_}
+use Prim.Native.Nat.{ℕ, suc, _*_, _<_}
 use native.Mathlib.Omega.{arith}
-use Rattle.sizes.specs.Sizes.{blocks}
-use Rattle.sizes.specs.Laws.{values-exchange, values-one}
+use Rattle.sizes.specs.declared.Protocol.{Protocol}
+use Rattle.sizes.specs.Sizes.{blocks, roundsIn, valuesIn}
 use Rattle.messages.specs.Messages.{toAll}
-use Rattle.messages.specs.Wall.{Delivered}
-use Rattle.dispersal.specs.Dispersal.{exchange, exchanges}
+use Rattle.messages.specs.Wall.{Sound, Delivered}
+use Rattle.codeword.specs.Codeword.{Held}
+use Rattle.dispersal.specs.Dispersal.{exchange, exchanges, agreements}
 use Rattle.dispersal.specs.Run.{Graded}
 use Rattle.dispersal.specs.Graded.{grade-lt}
-use Rattle.dispersal.specs.Calls.{firstOf, secondOf, leavesWith, calls-graded}
+use Rattle.dispersal.specs.Calls.{agreementsOf, firstOf, reportsOf, secondOf, leavesWith, calls-graded}
+use Rattle.agreement.specs.declared.Column.{Column}
 use Rattle.agreement.specs.declared.Kind.the-variants.{Exchange, FirstReport, SecondReport}
-use Rattle.agreement.specs.Column.{freshColumn}
 use Rattle.agreement.specs.Parts.{withStage, withAgreements, withReports, withGrade, withVote}
-use Rattle.agreement.specs.Rounds.{kindOf, message, received, graded, goesOn, hears}
-use Rattle.agreement.specs.Kinds.{rounds-of}
-use Rattle.agreement.specs.Course.{course}
-use Rattle.agreement.specs.Courses.{Courses, state, places, sent, of}
+use Rattle.agreement.specs.Rounds.{kindIn, voting, recast, message, received, graded, goesOn, hears}
+use Rattle.agreement.specs.Courses.{Courses, state, is, next, sent, of}
 
-module _ {n m : ℕ} {H : ℕ → Bool} {held : ℕ → List ℕ} {inbox : ℕ → ℕ → List ℕ} (C : Courses n m H held inbox) where
+-- q rounds are over, and three of dispersal follow
+pub record Disperses (p : Protocol) (n m q : ℕ) : Type 0 where
+  pub many : suc (suc (suc q)) < roundsIn p n
+  pub kind₁ : kindIn p n (suc q) ≡ Exchange
+  pub kind₂ : kindIn p n (suc (suc q)) ≡ FirstReport
+  pub kind₃ : kindIn p n (suc (suc (suc q))) ≡ SecondReport
+  pub width₁ : valuesIn p n m (suc q) ≡ 2 * blocks n m
+  pub width₂ : valuesIn p n m (suc (suc q)) ≡ 1
+  pub width₃ : valuesIn p n m (suc (suc (suc q))) ≡ 1
+
+module _ {p : Protocol} {n m : ℕ} {H : ℕ → Bool} {held : ℕ → List ℕ} {inbox : ℕ → ℕ → List ℕ} (C : Courses p n m H held inbox)
+    (q : ℕ) (D : Disperses p n m q) (places : ℕ → List ℕ) (holding : (i : ℕ) → state C i q .bytes ≡ places i) where
+  q₁ : ℕ
+  q₁ = suc q
+
+  q₂ : ℕ
+  q₂ = suc (suc q)
+
+  q₃ : ℕ
+  q₃ = suc (suc (suc q))
+
+  abbrev agreed : ℕ → List Bool
+  agreed = agreementsOf n m places (of C q₁) (of C q₂) (of C q₃)
+
+  abbrev reported : ℕ → List Bool
+  reported = reportsOf n m places (of C q₁) (of C q₂) (of C q₃)
+
+  agreements₁ : (i : ℕ) → state C i q₁ .agreements ≡ agreed i
+  unfolding q₁ hears goesOn voting recast withStage withAgreements withVote
+  agreements₁ i =
+      let a = is C i q (omega (arith, D .many)) in
+      ap (λ (c : Column). c .agreements) (next C i q Exchange (D .kind₁)) ∙ rw (a .n-is, a .m-is, a .own-is, holding i)
+
+  agreements₂ : (i : ℕ) → state C i q₂ .agreements ≡ agreed i
+  unfolding q₁ q₂ hears goesOn voting recast withStage withReports withVote
+  agreements₂ i = ap (λ (c : Column). c .agreements) (next C i q₁ FirstReport (D .kind₂)) ∙ agreements₁ i
+
+  reports₂ : (i : ℕ) → state C i q₂ .reports ≡ reported i
+  unfolding q₁ q₂ hears goesOn voting recast withStage withReports withVote received message
+  reports₂ i =
+      let a = is C i q₁ (omega (arith, D .many)) in
+      ap (λ (c : Column). c .reports) (next C i q₁ FirstReport (D .kind₂)) ∙ rw (a .n-is, a .own-is, agreements₁ i)
+
   -- the grade with which a column leaves is the one that Protocol 3.2 gives
-  leaves-is : (i : ℕ) → state C i 3 .grade ≡ leavesWith n m (places C) (of C 1) (of C 2) (of C 3) i
-  unfolding course freshColumn kindOf hears goesOn withStage withAgreements withReports withGrade withVote graded received message
-  leaves-is i = refl
+  grade₃ : (i : ℕ) → state C i q₃ .grade ≡ leavesWith n m places (of C q₁) (of C q₂) (of C q₃) i
+  unfolding q₂ q₃ hears goesOn voting recast withStage withGrade withVote graded received message
+  grade₃ i =
+      let a = is C i q₂ (omega (arith, D .many)) in
+      ap (λ (c : Column). c .grade) (next C i q₂ SecondReport (D .kind₃)) ∙ rw (a .n-is, a .own-is, agreements₂ i, reports₂ i)
 
-  pub grade-small : (i : ℕ) → state C i 3 .grade < 3
-  grade-small i = rw (leaves-is i) (grade-lt n i _ _ _)
+  pub grade-small : (i : ℕ) → state C i (suc (suc (suc q))) .grade < 3
+  unfolding q₃
+  grade-small i = rw (grade₃ i) (grade-lt n i _ _ _)
 
-  sent₁ : Delivered n H (2 * blocks n m) (λ j. exchanges n m j (places C j)) (of C 1)
-  unfolding course freshColumn message exchanges kindOf
-  sent₁ = sent C 0 (2 * blocks n m) Exchange (λ j i. exchange n m j (places C j) i) (omega (arith, rounds-of n)) refl (values-exchange n m 1 refl) (λ j i sj. refl)
+  sent₁ : Delivered n H (2 * blocks n m) (λ j. exchanges n m j (places j)) (of C q₁)
+  unfolding q₁ message voting withVote exchanges
+  sent₁ =
+      sent C q (2 * blocks n m) Exchange (λ j i. exchange n m j (places j) i) (omega (arith, D .many)) (D .kind₁) (D .width₁) (λ j i sj.
+      let a = is C j q (omega (arith, D .many)) in rw (a .n-is, a .m-is, a .own-is, holding j))
 
-  sent₂ : Delivered n H 1 (λ j. toAll n 1 (firstOf n m (places C) (of C 1) (of C 2) (of C 3) j ∷ [])) (of C 2)
-  unfolding course freshColumn kindOf hears goesOn withStage withAgreements message toAll
-  sent₂ = sent C 1 1 FirstReport (λ j i. firstOf n m (places C) (of C 1) (of C 2) (of C 3) j ∷ []) (omega (arith, rounds-of n)) refl (values-one n m 2 (omega arith) (omega (arith, rounds-of n))) (λ j i sj. refl)
+  sent₂ : Delivered n H 1 (λ j. toAll n 1 (firstOf n m places (of C q₁) (of C q₂) (of C q₃) j ∷ [])) (of C q₂)
+  unfolding q₁ q₂ message voting withVote toAll
+  sent₂ =
+      sent C q₁ 1 FirstReport (λ j i. firstOf n m places (of C q₁) (of C q₂) (of C q₃) j ∷ []) (omega (arith, D .many)) (D .kind₂) (D .width₂) (λ j i sj.
+      let a = is C j q₁ (omega (arith, D .many)) in rw (a .n-is, agreements₁ j))
 
-  sent₃ : Delivered n H 1 (λ j. toAll n 1 (secondOf n m (places C) (of C 1) (of C 2) (of C 3) j ∷ [])) (of C 3)
-  unfolding course freshColumn kindOf hears goesOn withStage withAgreements withReports received message toAll
-  sent₃ = sent C 2 1 SecondReport (λ j i. secondOf n m (places C) (of C 1) (of C 2) (of C 3) j ∷ []) (omega (arith, rounds-of n)) refl (values-one n m 3 (omega arith) (omega (arith, rounds-of n))) (λ j i sj. refl)
+  sent₃ : Delivered n H 1 (λ j. toAll n 1 (secondOf n m places (of C q₁) (of C q₂) (of C q₃) j ∷ [])) (of C q₃)
+  unfolding q₂ q₃ message voting withVote toAll
+  sent₃ =
+      sent C q₂ 1 SecondReport (λ j i. secondOf n m places (of C q₁) (of C q₂) (of C q₃) j ∷ []) (omega (arith, D .many)) (D .kind₃) (D .width₃) (λ j i sj.
+      let a = is C j q₂ (omega (arith, D .many)) in rw (a .n-is, a .own-is, agreements₂ j, reports₂ j))
 
   -- THEOREM 3.3, of the columns' states
-  pub course-graded : Graded n H (places C) (λ i. state C i 3 .grade)
-  course-graded =
-      subst (Graded n H (places C)) (sym (fun-ext leaves-is))
-      (calls-graded n m (places C) (of C 1) (of C 2) (of C 3) H (C .wall) (C .bytes-low) (C .bytes-high) (C .records) sent₁ sent₂ sent₃)
+  pub course-graded : ((i : ℕ) → Sound n H i → Held m (places i)) → Graded n H places (λ i. state C i (suc (suc (suc q))) .grade)
+  unfolding q₃
+  course-graded records =
+      subst (Graded n H places) (sym (fun-ext grade₃))
+      (calls-graded n m places (of C q₁) (of C q₂) (of C q₃) H (C .wall) (C .bytes-low) (C .bytes-high) records sent₁ sent₂ sent₃)

@@ -1,97 +1,143 @@
--- The last two rounds of the courses are a run of data dissemination, so Theorem 3.9 speaks of what the columns end on.
-use mathlib.Core.Path.{_≡_, ap, _∙_}
-use mathlib.Core.Bool.{Bool, true}
+-- Two rounds of the courses that are points and kept points are a run of data dissemination, so Theorem 3.9 speaks of what the columns
+-- end on.
+use mathlib.Core.Path.{_≡_, refl, ap, subst, _∙_}
+use mathlib.Core.Bool.{Bool, true, _&&_}
 use mathlib.Core.List.{List}
 use mathlib.Core.Option.{Option, none, some}
 use Prim.Native.Nat.{ℕ, suc, _≤_}
 use native.Mathlib.Omega.{arith}
-use lib.Dec.{T}
-use Rattle.lists.specs.Lists.{count}
-use Rattle.sizes.specs.Sizes.{faults, blocks, rounds}
-use Rattle.sizes.specs.Laws.{values-blocks}
+use lib.Dec.{T, eqb, leb, leb→le}
+use Rattle.lists.specs.Lists.{count, same}
+use Rattle.lists.specs.Tests.{conj, and-both, by-contra}
+use Rattle.lists.specs.Entries.{same-eq, same-refl}
+use Rattle.lists.specs.Count.{mono}
+use Rattle.sizes.specs.declared.Protocol.{Protocol}
+use Rattle.sizes.specs.declared.Protocol.the-variants.{Agreement, Posting}
+use Rattle.sizes.specs.Sizes.{faults, blocks, roundsIn, valuesIn}
 use Rattle.messages.specs.Messages.{toAll}
-use Rattle.messages.specs.Wall.{Sound, Delivered}
+use Rattle.messages.specs.Wall.{Sound, holds, Delivered}
 use Rattle.codeword.specs.Codeword.{Held}
-use Rattle.king.specs.King.{phases}
+use Rattle.dispersal.specs.Run.{Graded, keeps}
 use Rattle.dissemination.specs.Dissemination.{spoken, points, pointsToAll}
 use Rattle.dissemination.specs.Run.{inputs}
 use Rattle.dissemination.specs.Calls.{keptOf, calls-consistent}
 use Rattle.agreement.specs.declared.Column.{Column}
 use Rattle.agreement.specs.declared.Kind.the-variants.{Points, KeptPoints}
-use Rattle.agreement.specs.Parts.{withStage, withKept}
-use Rattle.agreement.specs.Rounds.{kindOf, votesOne, spreads, message, outcomeOf, endsOn, goesOn, hears}
-use Rattle.agreement.specs.Kinds.{rounds-of, kind-points, kind-kept}
+use Rattle.agreement.specs.Parts.{withStage, withKept, withVote, withBytes}
+use Rattle.agreement.specs.Rounds.{kindIn, voteIn, voteAfter, voting, recast, votesOne, spreads, message, outcomeOf, endsOn, goesOn, hears}
 use Rattle.agreement.specs.Course.{listening}
-use Rattle.agreement.specs.Courses.{Courses, state, places, is, next, sent, of}
-use Rattle.agreement.specs.Phases.{base}
+use Rattle.agreement.specs.Courses.{Courses, state, is, next, sent, of}
 
-module _ {n m : ℕ} {H : ℕ → Bool} {held : ℕ → List ℕ} {inbox : ℕ → ℕ → List ℕ} (C : Courses n m H held inbox) where
-  -- the rounds of dispersal and the king rule
-  abbrev spread : ℕ
-  spread = base (phases n)
+-- q rounds are over, and the two of dissemination end the run
+pub record Disseminates (p : Protocol) (n m q : ℕ) : Type 0 where
+  pub last : roundsIn p n ≡ suc (suc q)
+  pub kind₁ : kindIn p n (suc q) ≡ Points
+  pub kind₂ : kindIn p n (suc (suc q)) ≡ KeptPoints
+  pub width₁ : valuesIn p n m (suc q) ≡ blocks n m
+  pub width₂ : valuesIn p n m (suc (suc q)) ≡ blocks n m
 
+module _ {p : Protocol} {n m : ℕ} {H : ℕ → Bool} {held : ℕ → List ℕ} {inbox : ℕ → ℕ → List ℕ} (C : Courses p n m H held inbox)
+    (q : ℕ) (D : Disseminates p n m q) (places : ℕ → List ℕ) (holding : (i : ℕ) → state C i q .bytes ≡ places i) where
   -- column i has its record for an input
   abbrev pub has : ℕ → Bool
-  has i = spreads (state C i spread)
+  has i = spreads (voting p (state C i q))
 
-  is-points : kindOf n (suc spread) ≡ Points
-  is-points = kind-points n (suc spread) (omega arith)
+  abbrev keptBy : ℕ → List ℕ
+  keptBy = keptOf n m has places (of C (suc q)) (of C (suc (suc q)))
 
-  is-kept : kindOf n (suc (suc spread)) ≡ KeptPoints
-  is-kept = kind-kept n (suc (suc spread)) (omega arith)
-
-  kept-is : (i : ℕ) → state C i (suc spread) .kept ≡ keptOf n m has (places C) (of C (suc spread)) (of C (suc (suc spread))) i
-  unfolding hears goesOn withStage withKept spreads votesOne
+  kept-is : (i : ℕ) → state C i (suc q) .kept ≡ keptBy i
+  unfolding hears goesOn voting recast withStage withKept withVote spreads votesOne
   kept-is i =
-      let a = is C i spread (omega (arith, rounds-of n)) in
-      ap (λ (c : Column). c .kept) (next C i spread Points is-points) ∙ rw (a .n-is, a .m-is, a .own-is, a .bytes-is)
+      let a = is C i q (omega (arith, D .last)) in
+      ap (λ (c : Column). c .kept) (next C i q Points (D .kind₁)) ∙ rw (a .n-is, a .m-is, a .own-is, holding i)
 
-  vote-stays : (i : ℕ) → state C i (suc spread) .vote ≡ state C i spread .vote
-  unfolding hears goesOn withStage withKept
-  vote-stays i = ap (λ (c : Column). c .vote) (next C i spread Points is-points)
+  -- the vote that the rounds read stays as it is
+  vote-stays : (i : ℕ) → voteIn p (state C i (suc q) .vote) ≡ voteIn p (state C i q .vote)
+  unfolding hears goesOn voting recast withStage withKept withVote voteIn voteAfter
+  vote-stays i = ap (λ (c : Column). voteIn p (c .vote)) (next C i q Points (D .kind₁)) ∙ go p (state C i q .vote)
+    where
+      go : (p : Protocol) (v : ℕ) → voteIn p (voteAfter p v (voteIn p v)) ≡ voteIn p v
+      go Agreement v = refl
+      go (Posting s) v = refl
 
-  points-sent : Delivered n H (blocks n m) (λ j. pointsToAll n m (has j) (places C j)) (of C (suc spread))
-  unfolding message pointsToAll
+  points-sent : Delivered n H (blocks n m) (λ j. pointsToAll n m (has j) (places j)) (of C (suc q))
+  unfolding message pointsToAll voting withVote
   points-sent =
-      sent C spread (blocks n m) Points (λ j i. points n m (has j) (places C j) i) (omega (arith, rounds-of n)) is-points
-      (values-blocks n m (suc spread) (omega arith) (omega (arith, rounds-of n)) (omega (arith, rounds-of n)))
+      sent C q (blocks n m) Points (λ j i. points n m (has j) (places j) i) (omega (arith, D .last)) (D .kind₁) (D .width₁)
       (λ j i sj.
-      let a = is C j spread (omega (arith, rounds-of n)) in rw (a .n-is, a .m-is, a .bytes-is))
+      let a = is C j q (omega (arith, D .last)) in rw (a .n-is, a .m-is, holding j))
 
   -- where all sound columns have the vote 1, the kept points are sent
-  kept-sent : ((j : ℕ) → Sound n H j → state C j spread .vote ≡ 1)
-      → Delivered n H (blocks n m) (λ j. toAll n (blocks n m) (spoken true (keptOf n m has (places C) (of C (suc spread)) (of C (suc (suc spread))) j))) (of C (suc (suc spread)))
-  unfolding message toAll votesOne
+  kept-sent : ((j : ℕ) → Sound n H j → voteIn p (state C j q .vote) ≡ 1)
+      → Delivered n H (blocks n m) (λ j. toAll n (blocks n m) (spoken true (keptBy j))) (of C (suc (suc q)))
+  unfolding message toAll votesOne voting withVote
   kept-sent ones =
-      sent C (suc spread) (blocks n m) KeptPoints (λ j i. spoken true (keptOf n m has (places C) (of C (suc spread)) (of C (suc (suc spread))) j)) (omega (arith, rounds-of n)) is-kept
-      (values-blocks n m (suc (suc spread)) (omega arith) (omega (arith, rounds-of n)) (omega (arith, rounds-of n)))
+      sent C (suc q) (blocks n m) KeptPoints (λ j i. spoken true (keptBy j)) (omega (arith, D .last)) (D .kind₂) (D .width₂)
       (λ j i sj. rw (kept-is j, vote-stays j, ones j sj))
 
   -- column i, to listen in the last round
   abbrev pub lastly : ℕ → Column
-  lastly i = listening n m i (held i) (inbox i) (suc spread)
+  lastly i = listening p n m i (held i) (inbox i) (suc q)
 
   -- what it ends on
   unfoldable pub decides : ℕ → Option (List ℕ)
-  decides i = outcomeOf (lastly i) (inbox i (suc (suc spread)))
+  decides i = outcomeOf (voting p (lastly i)) (inbox i (suc (suc q)))
 
-  pub last-state : (i : ℕ) → state C i (rounds n) ≡ endsOn (decides i) (lastly i)
-  unfolding hears decides
+  pub last-state : (i : ℕ) → state C i (roundsIn p n) ≡ endsOn (decides i) (lastly i)
+  unfolding hears decides endsOn recast voting voteIn voteAfter withStage withVote withBytes
   last-state i =
-      let e : rounds n ≡ suc (suc spread) = omega (arith, rounds-of n) in
-      ap (state C i) e ∙ next C i (suc spread) KeptPoints is-kept
+      ap (state C i) (D .last) ∙ next C i (suc q) KeptPoints (D .kind₂) ∙ go p (lastly i) (decides i)
+    where
+      go : (p : Protocol) (c : Column) (o : Option (List ℕ)) → recast p (c .vote) (endsOn o (voting p c)) ≡ endsOn o c
+      go Agreement c none = refl
+      go Agreement c (some bytes) = refl
+      go (Posting s) c none = refl
+      go (Posting s) c (some bytes) = refl
 
   -- with vote 0 on none
-  pub decides-none : (i : ℕ) → state C i spread .vote ≡ 0 → decides i ≡ none
-  unfolding decides outcomeOf withStage votesOne
+  pub decides-none : (i : ℕ) → voteIn p (state C i q .vote) ≡ 0 → decides i ≡ none
+  unfolding decides outcomeOf withStage votesOne voting withVote
   decides-none i e = rw (vote-stays i, e)
 
-  -- THEOREM 3.9, of the columns' states: with vote 1 at all sound columns, on the record that t + 1 of them have for an input, if no sound
-  -- column has another one
-  pub decides-record : ((j : ℕ) → Sound n H j → state C j spread .vote ≡ 1) → (r : List ℕ) → Held m r → suc (faults n) ≤ count (inputs H has (places C) r) n
-      → ((j : ℕ) → Sound n H j → T (has j) → places C j ≡ r) → (i : ℕ) → Sound n H i → decides i ≡ some r
-  unfolding decides outcomeOf withStage votesOne message
-  decides-record ones r whole many only i si =
-      let a = is C i (suc spread) (omega (arith, rounds-of n)) in
-      rw (vote-stays i, ones i si, a .n-is, a .m-is, a .own-is, kept-is i)
-      (calls-consistent n m has (places C) (of C (suc spread)) (of C (suc (suc spread))) H (C .wall) (C .bytes-low) (C .bytes-high) points-sent (kept-sent ones) r whole many only i si)
+  module _ (ones : (i : ℕ) → Sound n H i → voteIn p (state C i q .vote) ≡ 1) where
+    -- THEOREM 3.9, of the columns' states: with vote 1 at all sound columns, on the record that t + 1 of them have for an input, if no sound
+    -- column has another one
+    decides-record : (r : List ℕ) → Held m r → suc (faults n) ≤ count (inputs H has places r) n
+        → ((j : ℕ) → Sound n H j → T (has j) → places j ≡ r) → (i : ℕ) → Sound n H i → decides i ≡ some r
+    unfolding decides outcomeOf withStage votesOne message voting withVote
+    decides-record r whole many only i si =
+        let a = is C i (suc q) (omega (arith, D .last)) in
+        rw (vote-stays i, ones i si, a .n-is, a .m-is, a .own-is, kept-is i)
+        (calls-consistent n m has places (of C (suc q)) (of C (suc (suc q))) H (C .wall) (C .bytes-low) (C .bytes-high) points-sent (kept-sent ones) r whole many only i si)
+
+    -- what a sound grade 2 means for the end, where the columns left dispersal with these grades: t + 1 sound columns have its record for an
+    -- input and no sound column has another, so all end on it
+    module _ (g : ℕ → ℕ) (lasts : (i : ℕ) → state C i q .grade ≡ g i) (G : Graded n H places g) (c : ℕ) (sc : Sound n H c) (two : g c ≡ 2) where
+      -- who has an input left with grade 1 or 2, and the other way round
+      has-is : (i : ℕ) → Sound n H i → has i ≡ leb 1 (g i)
+      unfolding spreads votesOne voting withVote
+      has-is i si = rw (ones i si, lasts i)
+
+      one-record : (j : ℕ) → Sound n H j → T (has j) → places j ≡ places c
+      one-record j sj h =
+          same-eq (places j) (places c) (by-contra (same (places j) (places c)) (λ no.
+          omega (
+            arith,
+            leb→le 1 (g j) (rw (has-is j sj) at h),
+            G .others c j sc sj two (λ e. no (rw e (same-refl (places c)))),
+          )))
+
+      many-inputs : suc (faults n) ≤ count (inputs H has places (places c)) n
+      many-inputs =
+          omega (
+            arith,
+            G .enough c sc two,
+            mono (keeps H places g (places c)) (inputs H has places (places c)) n (λ i l u h.
+                let si : Sound n H i = (l, u, search conj) in
+                let one : T (leb 1 (g i)) = search conj in
+                let held-it : T (same (places i) (places c)) = search conj in
+                and-both (holds H places (places c) i) (has i) (and-both (H i) (same (places i) (places c)) (si .2) held-it) (rw (has-is i si) one)),
+          )
+
+      pub grade-two-decides : Held m (places c) → (i : ℕ) → Sound n H i → decides i ≡ some (places c)
+      grade-two-decides whole = decides-record (places c) whole many-inputs one-record

@@ -17,7 +17,8 @@ use Rattle.lists.specs.Entries.{length-listOf, getD-listOf}
 use Rattle.lists.specs.Rows.{length-rowsOf, inRow-rowsOf}
 use Rattle.field.specs.Field.{blank}
 use Rattle.block.specs.Block.{part, value}
-use Rattle.sizes.specs.Sizes.{faults, degree, blocks, rounds, values, outside, refusal as refusalOfSizes}
+use Rattle.sizes.specs.declared.Protocol.the-variants.{Agreement}
+use Rattle.sizes.specs.Sizes.{roundsIn, valuesIn, beside, faults, degree, blocks, rounds, values, outside, refusal as refusalOfSizes}
 use Rattle.messages.specs.Messages.{readPoint, readReport, readBit, said, from, toAll, refusal, unlessRefused, heard, heardFrom, heardOfAll, times}
 use Rattle.messages.specs.Wall.{Sound, Delivered}
 use Rattle.codeword.specs.Codeword.{point, values as valuesAt}
@@ -25,11 +26,12 @@ use Rattle.decoder.specs.Decoder.{decoded, found, seek, through, under, slopes,
 use Rattle.king.specs.King.{phases, bits, chosen, proposal, settled, firm, word, crowned}
 use Rattle.dispersal.specs.Dispersal.{exchange, agreesIn, agreesWith, agreementAt, agreements, agrees, firstQuorum, firstReport, reportAt, reports, reported, both, secondQuorum, secondReport, readReports, grade}
 use Rattle.dissemination.specs.Dissemination.{spoken, pointsIn, points, least, often, keptPoint, keptAt, keptPoints, pointAt, blockOf, there, coefficient, isByte, isBlock, byteAt, recordOf}
-use Rattle.agreement.specs.Column.{freshColumn, stageFits, byteFits, flagFits, pointFits, numbersFit, arraysFit, fits}
+use Rattle.agreement.specs.Column.{freshColumn, freshIn, namesFit, stageFits, byteFits, flagFits, pointFits, numbersFit, arraysFit, fits}
 use Rattle.agreement.specs.Parts.{withStage, withBytes, withProposal, withAgreements, withReports, withGrade, withVote, withKept}
-use Rattle.agreement.specs.Rounds.{kingRound, laterRound, kindOf, votesOne, spreads, message, outgoing, received, kingSaid, graded, firstVote, resettled, outcomeOf, endsOn, goesOn, hears}
-use Rattle.agreement.specs.Calls.{refusalOf, answerOf, answered, freshRefusal, fresh, roundOf, whenSpeaking, whenListening, whenAsked, inState, inRound, speakRefusal, speak, written, listenRefusal, listen, outcomeRefusal, ending, replyOf, shown, outcome, refusalIn, recordIn}
-use Rattle.agreement.specs.Claim.{Speaks, Listens, Asks, Item, leading, extra, callOf, refusalAt, after, final, afterLeading, leadingCalls, turns, isAsking, idle, extrasIdle, wrote, made, Run, Answers, leaves, Demand}
+use Rattle.agreement.specs.Rounds.{kingRound, laterRound, kindOf, kindIn, voteIn, voteAfter, voting, recast, listens, votesOne, spreads, message, outgoing, received, kingSaid, graded, firstVote, resettled, outcomeOf, endsOn, goesOn, hears}
+use Rattle.agreement.specs.Calls.{refusalOf, answerOf, answered, orElse, freshRefusal, fresh, roundOf, whenSpeaking, whenListening, whenAsked, inState, inRound, speakRefusal, speak, written, listenRefusal, listen, outcomeRefusal, ending, replyOf, shown, outcome, refusalIn, recordIn}
+use Rattle.agreement.specs.Lists.{Speaks, Listens, Asks, Item, leading, extra, callOf, refusalAt, after, final, afterLeading, leadingCalls, turns, isAsking, idle, extrasIdle, wrote, made, Run, Answers}
+use Rattle.agreement.specs.Claim.{leaves, Demand}
 use Rattle.agreement.specs.Theorem.{third-demand}
 
 -- column 4 is unsound
@@ -107,28 +109,28 @@ slice j q = toAll 4 (values 4 1 (suc q)) (said-by (suc q) j)
 -- a sound column's list of calls
 record Plays (i : ℕ) : Type 0 where
   in-turn : leadingCalls (lists i) ≡ turns (out i) (inbox i) 1 (rounds 4)
-  extras : T (extrasIdle (made 4 1 held i) (lists i))
-  wrote-slices : wrote (made 4 1 held i) (lists i) ≡ listOf (slice i) 11
+  extras : T (extrasIdle Agreement (made Agreement 4 1 held i) (lists i))
+  wrote-slices : wrote Agreement (made Agreement 4 1 held i) (lists i) ≡ listOf (slice i) 11
 
 record Computed : Type 0 where
   plays-1 : Plays 1
   plays-2 : Plays 2
   plays-3 : Plays 3
   -- each refusal from the state, where it stands
-  too-early : refusalAt (made 4 1 held 1) Asks ≡ 9
-  to-speak : refusalAt (made 4 1 held 1) (Listens (inbox 1 1)) ≡ 8
-  to-listen : refusalAt (after (made 4 1 held 1) (Speaks (out 1 1))) (Speaks (out 1 1)) ≡ 7
-  too-short : refusalAt (made 4 1 held 2) (Speaks (9 ∷ [])) ≡ 4
-  after-the-end : refusalAt (final (made 4 1 held 1) (lists 1)) (Speaks (out 1 1)) ≡ 10
+  too-early : refusalAt Agreement (made Agreement 4 1 held 1) Asks ≡ 9
+  to-speak : refusalAt Agreement (made Agreement 4 1 held 1) (Listens (inbox 1 1)) ≡ 8
+  to-listen : refusalAt Agreement (after Agreement (made Agreement 4 1 held 1) (Speaks (out 1 1))) (Speaks (out 1 1)) ≡ 7
+  too-short : refusalAt Agreement (made Agreement 4 1 held 2) (Speaks (9 ∷ [])) ≡ 4
+  after-the-end : refusalAt Agreement (final Agreement (made Agreement 4 1 held 1) (lists 1)) (Speaks (out 1 1)) ≡ 10
   -- "1 sound grade 2 .. 2 sound grade 1 .. 3 sound grade 0"
   leaves-2 : leaves 4 1 held lists 1 ≡ 2
   leaves-1 : leaves 4 1 held lists 2 ≡ 1
   leaves-0 : leaves 4 1 held lists 3 ≡ 0
   -- column 3 held another record and ends on 41
-  ends-on-41 : Answers 1 (final (made 4 1 held 3) (lists 3)) (some (65 ∷ []))
+  ends-on-41 : Answers Agreement 1 (final Agreement (made Agreement 4 1 held 3) (lists 3)) (some (65 ∷ []))
 
 computed : Computed
-unfolding noisy toAll final callOf afterLeading leadingCalls turns extrasIdle wrote refusalIn recordIn count all listOf rowsOf part value faults degree blocks rounds values outside refusalOfSizes readPoint readReport readBit said from refusal unlessRefused heard heardFrom heardOfAll times point valuesAt decoded found seek through under slopes decodedAs polynomialOf phases bits chosen proposal settled firm word crowned exchange agreesIn agreesWith agreementAt agreements agrees firstQuorum firstReport reportAt reports reported both secondQuorum secondReport readReports grade spoken pointsIn points least often keptPoint keptAt keptPoints pointAt blockOf there coefficient isByte isBlock byteAt recordOf freshColumn stageFits byteFits flagFits pointFits numbersFit arraysFit fits withStage withBytes withProposal withAgreements withReports withGrade withVote withKept kingRound laterRound kindOf votesOne spreads message outgoing received kingSaid graded firstVote resettled outcomeOf endsOn goesOn hears refusalOf answerOf answered freshRefusal fresh roundOf whenSpeaking whenListening whenAsked inState inRound speakRefusal speak written listenRefusal listen outcomeRefusal ending replyOf shown outcome refusalAt after isAsking idle made
+unfolding noisy toAll final callOf afterLeading leadingCalls turns extrasIdle wrote refusalIn recordIn count all listOf rowsOf part value faults degree blocks rounds values outside refusalOfSizes readPoint readReport readBit said from refusal unlessRefused heard heardFrom heardOfAll times point valuesAt decoded found seek through under slopes decodedAs polynomialOf phases bits chosen proposal settled firm word crowned exchange agreesIn agreesWith agreementAt agreements agrees firstQuorum firstReport reportAt reports reported both secondQuorum secondReport readReports grade spoken pointsIn points least often keptPoint keptAt keptPoints pointAt blockOf there coefficient isByte isBlock byteAt recordOf freshColumn stageFits byteFits flagFits pointFits numbersFit arraysFit fits withStage withBytes withProposal withAgreements withReports withGrade withVote withKept kingRound laterRound kindOf votesOne spreads message outgoing received kingSaid graded firstVote resettled outcomeOf endsOn goesOn hears refusalOf answerOf answered freshRefusal fresh roundOf whenSpeaking whenListening whenAsked inState inRound speakRefusal speak written listenRefusal listen outcomeRefusal ending replyOf shown outcome refusalAt after isAsking idle made roundsIn valuesIn beside freshIn namesFit kindIn voteIn voteAfter voting recast listens orElse
 computed =
     record {
       plays-1 = record { in-turn = refl; extras = tt; wrote-slices = refl };
@@ -160,7 +162,7 @@ plays : (i : ℕ) → Sound 4 sound i → Plays i
 plays = each Plays (computed .plays-1) (computed .plays-2) (computed .plays-3)
 
 -- where another sound column listens, what a sound column said is delivered
-delivered : (r : ℕ) → 1 ≤ r → r ≤ rounds 4 → Delivered 4 sound (values 4 1 r) (λ j. getD (wrote (made 4 1 held j) (lists j)) (r - 1) []) (λ i. inbox i r)
+delivered : (r : ℕ) → 1 ≤ r → r ≤ rounds 4 → Delivered 4 sound (values 4 1 r) (λ j. getD (wrote Agreement (made Agreement 4 1 held j) (lists j)) (r - 1) []) (λ i. inbox i r)
 unfolding Delivered toAll rounds faults
 delivered r l u i j k si sj ne h =
     let first : r - 1 < 11 = omega (arith, eleven) in
@@ -173,13 +175,15 @@ delivered r l u i j k si sj ne h =
     eleven : rounds 4 ≡ 11
     eleven = refl
 
-pub run : Run 4 1 sound held lists out inbox
-unfolding count faults
+pub run : Run Agreement 4 1 sound held lists out inbox
+unfolding count faults roundsIn valuesIn beside
 run =
     record {
       wall = record { low = omega arith; high = omega arith; few = le-refl 1 };
       bytes-low = omega arith;
       bytes-high = omega arith;
+      poster-low = omega arith;
+      poster-high = omega arith;
       records = each (λ i. (length (held i) ≡ 1) × Below 256 (held i)) (refl, small 65 (omega arith)) (refl, small 65 (omega arith)) (refl, small 66 (omega arith));
       in-turn = λ i si. plays i si .in-turn;
       out-length = λ i r si l u. length-listOf (λ k. 7) (4 * values 4 1 r);

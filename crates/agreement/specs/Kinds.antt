@@ -7,12 +7,14 @@ use native.Mathlib.Nat.{eq-or-lt-of-le}
 use native.Mathlib.Omega.{arith}
 use borrow.Author.Tests.{ltb-false, lt-ltb, le-ltb, eqb-false, eq-eqb, ne-eqb}
 use lib.Dec.{eqb, ltb}
-use Rattle.sizes.specs.Sizes.{rounds}
+use Rattle.sizes.specs.declared.Protocol.{Protocol}
+use Rattle.sizes.specs.declared.Protocol.the-variants.{Agreement, Posting}
+use Rattle.sizes.specs.Sizes.{rounds, roundsIn}
 use Rattle.sizes.specs.Laws.{rounds-are}
 use Rattle.king.specs.King.{phases}
 use Rattle.agreement.specs.declared.Kind.{Kind}
-use Rattle.agreement.specs.declared.Kind.the-variants.{Exchange, FirstReport, SecondReport, Votes, Proposals, King, Points, KeptPoints}
-use Rattle.agreement.specs.Rounds.{kingRound, laterRound, kindOf}
+use Rattle.agreement.specs.declared.Kind.the-variants.{Exchange, FirstReport, SecondReport, Votes, Proposals, King, Points, KeptPoints, Post}
+use Rattle.agreement.specs.Rounds.{kingRound, laterRound, kindOf, postingKind, kindIn}
 
 -- "A run has 3t + 8 rounds": three of dispersal, three of each phase, two of dissemination
 pub rounds-of : (n : ℕ) → rounds n ≡ 3 * phases n + 5
@@ -74,35 +76,72 @@ ends Proposals = false
 ends (King king) = false
 ends Points = false
 ends KeptPoints = true
+ends (Post s) = false
 
--- only the last round does
-pub goes-on : (n round : ℕ) → round ≤ 3 * phases n + 4 → ends (kindOf n round) ≡ false
-unfolding kindOf laterRound kingRound ends
-goes-on n round h = go (eqb round 1) (eqb round 2) (eqb round 3)
+-- it may change the record
+unfoldable pub rewrites : Kind → Bool
+rewrites Exchange = false
+rewrites FirstReport = false
+rewrites SecondReport = false
+rewrites Votes = false
+rewrites Proposals = false
+rewrites (King king) = false
+rewrites Points = false
+rewrites KeptPoints = true
+rewrites (Post s) = true
+
+abbrev Keeps : Kind → Type 0
+Keeps kind = (ends kind ≡ false) × (rewrites kind ≡ false)
+
+-- in an agreement only the last round does
+pub keeps-on : (n round : ℕ) → round ≤ 3 * phases n + 4 → Keeps (kindOf n round)
+unfolding kindOf laterRound kingRound ends rewrites
+keeps-on n round h = go (eqb round 1) (eqb round 2) (eqb round 3)
   where
     q : ℕ
     q = round - 4
 
-    king : (a b : Bool) → ends (cond a Votes (cond b Proposals (King (q / 3 + 1)))) ≡ false
-    king true b = refl
-    king false true = refl
-    king false false = refl
+    king : (a b : Bool) → Keeps (cond a Votes (cond b Proposals (King (q / 3 + 1))))
+    king true b = (refl, refl)
+    king false true = (refl, refl)
+    king false false = (refl, refl)
 
-    last : (a b : Bool) → ltb q (3 * phases n) ≡ a → eqb q (3 * phases n) ≡ b → ends (cond a (kingRound q) (cond b Points KeptPoints)) ≡ false
+    last : (a b : Bool) → ltb q (3 * phases n) ≡ a → eqb q (3 * phases n) ≡ b → Keeps (cond a (kingRound q) (cond b Points KeptPoints))
     last true b ea eb = king (eqb (q % 3) 0) (eqb (q % 3) 1)
-    last false true ea eb = refl
+    last false true ea eb = (refl, refl)
     last false false ea eb = absurd (omega (arith, ltb-false q (3 * phases n) ea, eqb-false q (3 * phases n) eb))
 
-    go : (a b c : Bool) → ends (cond a Exchange (cond b FirstReport (cond c SecondReport (laterRound (3 * phases n) q)))) ≡ false
-    go true b c = refl
-    go false true c = refl
-    go false false true = refl
+    go : (a b c : Bool) → Keeps (cond a Exchange (cond b FirstReport (cond c SecondReport (laterRound (3 * phases n) q))))
+    go true b c = (refl, refl)
+    go false true c = (refl, refl)
+    go false false true = (refl, refl)
     go false false false = last (ltb q (3 * phases n)) (eqb q (3 * phases n)) refl refl
 
-pub before-last : (n round : ℕ) → round ≤ rounds n → ends (kindOf n round) ≡ false → round < rounds n
-unfolding ends
-before-last n round h e = go (eq-or-lt-of-le h)
+-- every run goes on before its last round
+pub goes-on : (p : Protocol) (n round : ℕ) → 1 ≤ round → round < roundsIn p n → ends (kindIn p n round) ≡ false
+unfolding kindIn roundsIn postingKind ends
+goes-on Agreement n round l h = keeps-on n round (omega (arith, rounds-of n)) .0
+goes-on (Posting s) n round l h = go (eqb round 1) (eqb round 2) (eqb round 3) (eqb round 4) (eqb round 5) refl refl refl refl refl
   where
-    go : (round ≡ rounds n) ⊎ (round < rounds n) → round < rounds n
-    go (inl q) = absurd (true≢false (sym (ap ends (kind-kept n round (q ∙ rounds-of n))) ∙ e))
+    go : (a b c d e : Bool) → eqb round 1 ≡ a → eqb round 2 ≡ b → eqb round 3 ≡ c → eqb round 4 ≡ d → eqb round 5 ≡ e
+        → ends (cond a (Post s) (cond b Exchange (cond c FirstReport (cond d SecondReport (cond e Points KeptPoints))))) ≡ false
+    go true b c d e ea eb ec ed ee = refl
+    go false true c d e ea eb ec ed ee = refl
+    go false false true d e ea eb ec ed ee = refl
+    go false false false true e ea eb ec ed ee = refl
+    go false false false false true ea eb ec ed ee = refl
+    go false false false false false ea eb ec ed ee =
+        absurd (omega (arith, eqb-false round 1 ea, eqb-false round 2 eb, eqb-false round 3 ec, eqb-false round 4 ed, eqb-false round 5 ee))
+
+-- and ends with it
+last-ends : (p : Protocol) (n round : ℕ) → round ≡ roundsIn p n → ends (kindIn p n round) ≡ true
+unfolding kindIn roundsIn postingKind ends
+last-ends Agreement n round e = ap ends (kind-kept n round (e ∙ rounds-of n))
+last-ends (Posting s) n round e = ap (λ (r : ℕ). ends (postingKind s r)) e
+
+pub before-last : (p : Protocol) (n round : ℕ) → round ≤ roundsIn p n → ends (kindIn p n round) ≡ false → round < roundsIn p n
+before-last p n round h e = go (eq-or-lt-of-le h)
+  where
+    go : (round ≡ roundsIn p n) ⊎ (round < roundsIn p n) → round < roundsIn p n
+    go (inl q) = absurd (true≢false (sym (last-ends p n round q) ∙ e))
     go (inr q) = q

@@ -1,19 +1,22 @@
 -- No call leaves a state that a later one would refuse with 11.
-use mathlib.Core.Path.{_≡_, refl}
-use mathlib.Core.Bool.{Bool, true, false, not, _||_, cond}
-use mathlib.Core.List.{List}
+use mathlib.Core.Path.{_≡_, refl, _∙_}
+use mathlib.Core.Bool.{Bool, true, false, not, _&&_, _||_, cond}
+use mathlib.Core.List.{List, []}
 use mathlib.Core.Option.{Option, none, some}
 use Prim.Native.Nat.{ℕ, _+_, _≤_, _<_, zero, suc}
 use native.Mathlib.Omega.{arith}
+use borrow.Author.Tests.{le-ltb}
 use lib.Dec.{T, eqb, ltb, lt→ltb, ltb→lt}
 use lib.ListN.{getD, replicate, length, getD-replicate}
-use Rattle.lists.specs.Lists.{all}
+use Rattle.lists.specs.Lists.{all, listOf}
 use Rattle.lists.specs.Tests.{and-left, and-right, and-both, or-past, eq→eqb}
-use Rattle.lists.specs.Entries.{each-all}
+use Rattle.lists.specs.Entries.{each-all, getD-listOf}
 use Rattle.field.specs.Field.{blank}
 use Rattle.block.specs.Block.{part}
-use Rattle.sizes.specs.Sizes.{blocks, rounds, outside, refusal}
-use Rattle.sizes.specs.Laws.{rounds-are, not-outside}
+use Rattle.sizes.specs.declared.Protocol.{Protocol}
+use Rattle.sizes.specs.declared.Protocol.the-variants.{Agreement, Posting}
+use Rattle.sizes.specs.Sizes.{blocks, roundsIn, outside, refusal, beside}
+use Rattle.sizes.specs.Laws.{rounds-in-some, not-outside}
 use Rattle.messages.specs.Messages.{readPoint, readBit}
 use Rattle.codeword.specs.Places.{zeros-past}
 use Rattle.king.specs.King.{firm, crowned}
@@ -28,10 +31,10 @@ use Rattle.agreement.specs.declared.Stage.{Stage}
 use Rattle.agreement.specs.declared.Stage.the-variants.{Speak, Ended, Listen}
 use Rattle.agreement.specs.declared.Column.{Column}
 use Rattle.agreement.specs.declared.Kind.{Kind}
-use Rattle.agreement.specs.declared.Kind.the-variants.{Exchange, FirstReport, SecondReport, Votes, Proposals, King, Points, KeptPoints}
-use Rattle.agreement.specs.Column.{freshColumn, stageFits, byteFits, flagFits, pointFits, numbersFit, arraysFit, fits}
+use Rattle.agreement.specs.declared.Kind.the-variants.{Exchange, FirstReport, SecondReport, Votes, Proposals, King, Points, KeptPoints, Post}
+use Rattle.agreement.specs.Column.{freshColumn, freshIn, namesFit, stageFits, byteFits, flagFits, pointFits, numbersFit, arraysFit, fits}
 use Rattle.agreement.specs.Parts.{withStage, withBytes, withProposal, withAgreements, withReports, withGrade, withVote, withKept}
-use Rattle.agreement.specs.Rounds.{votesOne, spreads, received, kingSaid, graded, firstVote, resettled, outcomeOf, endsOn, goesOn, hears, kindOf}
+use Rattle.agreement.specs.Rounds.{votesOne, spreads, received, kingSaid, graded, firstVote, resettled, outcomeOf, endsOn, postedBy, isByte, byteAt, takenRecord, posted, goesOn, hears, kindIn, voteIn, voteAfter, voting, recast}
 use Rattle.agreement.specs.Kinds.{ends, before-last}
 use Rattle.agreement.specs.Course.{course, listening, course-is}
 
@@ -39,42 +42,46 @@ ruleset conjunction = (and-left, and-right, and-both)
 
 -- A COLUMN THAT FITS, WITH ONE PART CHANGED
 
-module _ (c : Column) (h : T (fits c)) where
-  with-stage : (stage : Stage) → T (stageFits (c .n) stage) → T (fits (withStage stage c))
-  unfolding fits numbersFit arraysFit withStage
+module _ (p : Protocol) (c : Column) (h : T (fits p c)) where
+  with-stage : (stage : Stage) → T (stageFits (roundsIn p (c .n)) stage) → T (fits p (withStage stage c))
+  unfolding fits numbersFit namesFit arraysFit withStage
   with-stage stage g = search conjunction
 
-  with-bytes : (bytes : List ℕ) → T (all (byteFits (c .m) bytes) 32) → T (fits (withBytes bytes c))
-  unfolding fits numbersFit arraysFit withBytes
+  with-bytes : (bytes : List ℕ) → T (all (byteFits (c .m) bytes) 32) → T (fits p (withBytes bytes c))
+  unfolding fits numbersFit namesFit arraysFit withBytes
   with-bytes bytes g = search conjunction
 
-  with-proposal : (v : ℕ) → T (eqb (readBit v) v) → T (fits (withProposal v c))
-  unfolding fits numbersFit arraysFit withProposal
+  with-proposal : (v : ℕ) → T (eqb (readBit v) v) → T (fits p (withProposal v c))
+  unfolding fits numbersFit namesFit arraysFit withProposal
   with-proposal v g = search conjunction
 
-  with-agreements : (flags : List Bool) → T (all (flagFits (c .n) flags) 31) → T (fits (withAgreements flags c))
-  unfolding fits numbersFit arraysFit withAgreements
+  with-agreements : (flags : List Bool) → T (all (flagFits (c .n) flags) 31) → T (fits p (withAgreements flags c))
+  unfolding fits numbersFit namesFit arraysFit withAgreements
   with-agreements flags g = search conjunction
 
-  with-reports : (flags : List Bool) → T (all (flagFits (c .n) flags) 31) → T (fits (withReports flags c))
-  unfolding fits numbersFit arraysFit withReports
+  with-reports : (flags : List Bool) → T (all (flagFits (c .n) flags) 31) → T (fits p (withReports flags c))
+  unfolding fits numbersFit namesFit arraysFit withReports
   with-reports flags g = search conjunction
 
-  with-grade : (v : ℕ) → T (ltb v 3) → T (fits (withGrade v c))
-  unfolding fits numbersFit arraysFit withGrade
+  with-grade : (v : ℕ) → T (ltb v 3) → T (fits p (withGrade v c))
+  unfolding fits numbersFit namesFit arraysFit withGrade
   with-grade v g = search conjunction
 
-  with-vote : (v : ℕ) (sure : Bool) → T (ltb v 2) → T (fits (withVote v sure c))
-  unfolding fits numbersFit arraysFit withVote
+  with-vote : (v : ℕ) (sure : Bool) → T (ltb v 2) → T (fits p (withVote v sure c))
+  unfolding fits numbersFit namesFit arraysFit withVote
   with-vote v sure g = search conjunction
 
-  with-kept : (points : List ℕ) → T (all (pointFits (blocks (c .n) (c .m)) points) 32) → T (fits (withKept points c))
-  unfolding fits numbersFit arraysFit withKept
+  with-kept : (points : List ℕ) → T (all (pointFits (blocks (c .n) (c .m)) points) 32) → T (fits p (withKept points c))
+  unfolding fits numbersFit namesFit arraysFit withKept
   with-kept points g = search conjunction
 
   vote-fits : T (ltb (c .vote) 2)
   unfolding fits numbersFit
   vote-fits = search conjunction
+
+  bytes-were : T (all (byteFits (c .m) (c .bytes)) 32)
+  unfolding fits arraysFit
+  bytes-were = search conjunction
 
 -- WHAT THE ROUNDS WRITE FITS
 
@@ -107,68 +114,111 @@ first-fits (suc (suc zero)) l = tt
 first-fits (suc (suc (suc g))) l = absurd (omega arith)
 
 -- a round of the run
-round-fits : (n round : ℕ) → 1 ≤ round → round ≤ rounds n → T (not (outside 1 (rounds n) round))
-round-fits n round l h = rw (not-outside 1 (rounds n) round l h) tt
+round-fits : (last round : ℕ) → 1 ≤ round → round ≤ last → T (not (outside 1 last round))
+round-fits last round l h = rw (not-outside 1 last round l h) tt
 
 -- LISTENING
 
 -- a column that ends
-ends-fits : (c : Column) → T (fits c) → (o : Option (List ℕ)) → ((r : List ℕ) (p : ℕ) → o ≡ some r → c .m ≤ p → p < 32 → getD r p 0 ≡ 0) → T (fits (endsOn o c))
+ends-fits : (p : Protocol) (c : Column) → T (fits p c) → (o : Option (List ℕ)) → ((r : List ℕ) (p : ℕ) → o ≡ some r → c .m ≤ p → p < 32 → getD r p 0 ≡ 0) → T (fits p (endsOn o c))
 unfolding endsOn stageFits withBytes
-ends-fits c h none z = with-stage c h (Ended Nothing) tt
-ends-fits c h (some r) z = with-stage (withBytes r c) (with-bytes c h r (bytes-fit (c .m) r (λ p. z r p refl))) (Ended Record) tt
+ends-fits p c h none z = with-stage p c h (Ended Nothing) tt
+ends-fits p c h (some r) z = with-stage p (withBytes r c) (with-bytes p c h r (bytes-fit (c .m) r (λ p. z r p refl))) (Ended Record) tt
 
 -- one that goes on
-goes-fits : (round : ℕ) (c : Column) → round < rounds (c .n) → T (fits c) → T (fits (goesOn round c))
+goes-fits : (p : Protocol) (round : ℕ) (c : Column) → round < roundsIn p (c .n) → T (fits p c) → T (fits p (goesOn round c))
 unfolding goesOn stageFits
-goes-fits round c l h = with-stage c h (Speak (round + 1)) (round-fits (c .n) (round + 1) (omega arith) (omega arith))
+goes-fits p round c l h = with-stage p c h (Speak (round + 1)) (round-fits (roundsIn p (c .n)) (round + 1) (omega arith) (omega arith))
 
-hears-fits : (kind : Kind) (round : ℕ) (c : Column) (inbox : List ℕ) → (ends kind ≡ false → round < rounds (c .n)) → T (fits c) → T (fits (hears kind round c inbox))
-unfolding hears withProposal withAgreements withReports withGrade withVote withKept graded resettled outcomeOf ends
-hears-fits Exchange round c inbox l h =
-    goes-fits round _ (l refl) (with-agreements c h _ (flags-fit (c .n) _ (agreements-past (c .n) (c .m) (c .own) (c .bytes) inbox)))
-hears-fits FirstReport round c inbox l h = goes-fits round _ (l refl) (with-reports c h _ (flags-fit (c .n) _ (reports-past (c .n) (received FirstReport c inbox))))
-hears-fits SecondReport round c inbox l h =
+hears-fits : (p : Protocol) (kind : Kind) (round : ℕ) (c : Column) (inbox : List ℕ) → (ends kind ≡ false → round < roundsIn p (c .n)) → T (fits p c) → T (fits p (hears kind round c inbox))
+unfolding hears withProposal withAgreements withReports withGrade withVote withKept withBytes graded resettled outcomeOf posted takenRecord byteAt ends
+hears-fits p Exchange round c inbox l h =
+    goes-fits p round _ (l refl) (with-agreements p c h _ (flags-fit (c .n) _ (agreements-past (c .n) (c .m) (c .own) (c .bytes) inbox)))
+hears-fits p FirstReport round c inbox l h = goes-fits p round _ (l refl) (with-reports p c h _ (flags-fit (c .n) _ (reports-past (c .n) (received FirstReport c inbox))))
+hears-fits p SecondReport round c inbox l h =
     let small : graded c inbox < 3 = grade-lt (c .n) (c .own) (agrees (c .agreements)) (reported (c .reports)) (received SecondReport c inbox) in
-    goes-fits round _ (l refl) (with-grade _ (with-vote c h (firstVote (graded c inbox)) (c .firm) (first-fits (graded c inbox) small)) _ (lt→ltb (graded c inbox) 3 small))
-hears-fits Votes round c inbox l h = goes-fits round _ (l refl) (with-proposal c h _ (eq→eqb _ _ (proposal-reads (c .n) (received Votes c inbox))))
-hears-fits Proposals round c inbox l h =
-    goes-fits round _ (l refl) (with-vote c h _ _ (lt→ltb (resettled c inbox) 2 (settled-bit (c .n) (received Proposals c inbox) (c .vote) (ltb→lt (c .vote) 2 (vote-fits c h)))))
-hears-fits (King king) round c inbox l h =
+    goes-fits p round _ (l refl) (with-grade p _ (with-vote p c h (firstVote (graded c inbox)) (c .firm) (first-fits (graded c inbox) small)) _ (lt→ltb (graded c inbox) 3 small))
+hears-fits p Votes round c inbox l h = goes-fits p round _ (l refl) (with-proposal p c h _ (eq→eqb _ _ (proposal-reads (c .n) (received Votes c inbox))))
+hears-fits p Proposals round c inbox l h =
+    goes-fits p round _ (l refl) (with-vote p c h _ _ (lt→ltb (resettled c inbox) 2 (settled-bit (c .n) (received Proposals c inbox) (c .vote) (ltb→lt (c .vote) 2 (vote-fits p c h)))))
+hears-fits p (King king) round c inbox l h =
     let vote : ℕ = crowned (c .firm) (c .vote) (kingSaid king c inbox) in
-    let small : vote ≤ 1 = crowned-bit (c .firm) (c .vote) (kingSaid king c inbox) (omega (arith, ltb→lt (c .vote) 2 (vote-fits c h))) in
-    goes-fits round _ (l refl) (with-vote c h vote (c .firm) (lt→ltb vote 2 (omega arith)))
-hears-fits Points round c inbox l h =
-    goes-fits round _ (l refl) (with-kept c h _ (points-fit (blocks (c .n) (c .m)) _ (keptPoints-read (c .n) (c .m) (c .own) (spreads c) (c .bytes) inbox) (keptPoints-past (c .n) (c .m) (c .own) (spreads c) (c .bytes) inbox)))
-hears-fits KeptPoints round c inbox l h = ends-fits c h (outcomeOf c inbox) (decoded-past (votesOne c) _)
+    let small : vote ≤ 1 = crowned-bit (c .firm) (c .vote) (kingSaid king c inbox) (omega (arith, ltb→lt (c .vote) 2 (vote-fits p c h))) in
+    goes-fits p round _ (l refl) (with-vote p c h vote (c .firm) (lt→ltb vote 2 (omega arith)))
+hears-fits p Points round c inbox l h =
+    goes-fits p round _ (l refl) (with-kept p c h _ (points-fit (blocks (c .n) (c .m)) _ (keptPoints-read (c .n) (c .m) (c .own) (spreads c) (c .bytes) inbox) (keptPoints-past (c .n) (c .m) (c .own) (spreads c) (c .bytes) inbox)))
+hears-fits p KeptPoints round c inbox l h = ends-fits p c h (outcomeOf c inbox) (decoded-past (votesOne c) _)
   where
     decoded-past : (b : Bool) (received : ℕ → ℕ → ℕ) (r : List ℕ) (p : ℕ) → _≡_ {A = Option (List ℕ)} (cond b (recordOf (c .n) (c .m) received) none) (some r) → c .m ≤ p → p < 32 → getD r p 0 ≡ 0
     decoded-past true received r p e u v = record-past (c .n) (c .m) received r p e u v
     decoded-past false received r p e u v = let z : _≡_ {A = ℕ} 0 1 = cc in absurd (omega arith)
+hears-fits p (Post s) round c inbox l h = goes-fits p round _ (l refl) (with-bytes p c h _ (posted-fits (eqb (c .own) s) (all (isByte (postedBy s c inbox)) (c .m))))
+  where
+    -- its own record, bytes that were sent, or zeros
+    posted-fits : (mine legal : Bool)
+        → T (all (byteFits (c .m) (cond mine (c .bytes) (cond legal (listOf (byteAt (c .m) (postedBy s c inbox)) 32) (replicate 32 0)))) 32)
+    posted-fits true legal = bytes-were p c h
+    posted-fits false true =
+        bytes-fit (c .m) (listOf (byteAt (c .m) (postedBy s c inbox)) 32) (λ q l u.
+        getD-listOf (byteAt (c .m) (postedBy s c inbox)) 32 q 0 u ∙ rw (le-ltb q (c .m) l) refl)
+    posted-fits false false = bytes-fit (c .m) (replicate 32 0) (λ q l u. getD-replicate 32 q 0 0 u)
 
 -- A FRESH COLUMN
 
-fresh-fits : (n m own : ℕ) (bytes : List ℕ) → refusal n m own ≡ 0 → length bytes ≡ m → T (fits (freshColumn n m own bytes))
-unfolding fits numbersFit arraysFit freshColumn stageFits readBit readPoint
-fresh-fits n m own bytes e h =
+-- the same with another vote
+fresh-fits : (p : Protocol) (n m own vote : ℕ) (bytes : List ℕ) → vote ≤ 1 → refusal n m own ≡ 0 → refusal n m (beside p) ≡ 0 → ((q : ℕ) → m ≤ q → getD (part bytes 0 32) q 0 ≡ 0)
+    → T (fits p (withVote vote false (freshColumn n m own bytes)))
+unfolding fits numbersFit namesFit arraysFit freshColumn withVote stageFits readBit readPoint
+fresh-fits p n m own vote bytes v e b h =
     let sizes : T (eqb (refusal n m own) 0) = eq→eqb (refusal n m own) 0 e in
-    let stage : T (not (outside 1 (rounds n) 1)) = round-fits n 1 (omega arith) (omega (arith, rounds-are n)) in
-    let record-fits : T (all (byteFits m (part bytes 0 32)) 32) = bytes-fit m (part bytes 0 32) (λ p l u. zeros-past m bytes h p l) in
+    let poster : T (eqb (refusal n m (beside p)) 0) = eq→eqb (refusal n m (beside p)) 0 b in
+    let names : T (eqb (refusal n m own) 0 && eqb (refusal n m (beside p)) 0) = and-both (eqb (refusal n m own) 0) (eqb (refusal n m (beside p)) 0) sizes poster in
+    let stage : T (not (outside 1 (roundsIn p n) 1)) = round-fits (roundsIn p n) 1 (omega arith) (omega (arith, rounds-in-some p n)) in
+    let small : T (ltb vote 2) = lt→ltb vote 2 (omega arith) in
+    let record-fits : T (all (byteFits m (part bytes 0 32)) 32) = bytes-fit m (part bytes 0 32) (λ q l u. h q l) in
     let flags : T (all (flagFits n (replicate 31 false)) 31) = flags-fit n (replicate 31 false) (λ i l u. getD-replicate 31 i false false u) in
     let points : T (all (pointFits (blocks n m) (replicate 32 blank)) 32) = points-fit (blocks n m) (replicate 32 blank) (λ k u. rw (getD-replicate 32 k blank blank u) refl) (λ k u l. getD-replicate 32 k blank blank u) in
     search conjunction
 
+fresh-in-fits : (p : Protocol) (n m own : ℕ) (bytes : List ℕ) → refusal n m own ≡ 0 → refusal n m (beside p) ≡ 0 → length bytes ≡ m → T (fits p (freshIn p n m own bytes))
+unfolding freshIn withVote freshColumn
+fresh-in-fits Agreement n m own bytes e b h = fresh-fits Agreement n m own 0 bytes (omega arith) e b (zeros-past m bytes h)
+fresh-in-fits (Posting s) n m own bytes e b h = fresh-fits (Posting s) n m own 1 (cond (eqb own s) bytes []) (omega arith) e b (go (eqb own s))
+  where
+    go : (mine : Bool) (q : ℕ) → m ≤ q → getD (part (cond mine bytes []) 0 32) q 0 ≡ 0
+    go true q l = zeros-past m bytes h q l
+    go false q l = zeros-past 0 [] refl q (omega arith)
+
 -- THE COURSE OF A COLUMN
 
-module _ (n m own : ℕ) (bytes : List ℕ) (inbox : ℕ → List ℕ) (accepted : refusal n m own ≡ 0) (full : length bytes ≡ m) where
-  pub listening-fits : (q : ℕ) → q < rounds n → T (fits (course n m own bytes inbox q)) → T (fits (listening n m own bytes inbox q))
+-- the vote as the rounds read it, and after them
+voting-fits : (p : Protocol) (c : Column) → T (fits p c) → T (fits p (voting p c))
+unfolding voting voteIn
+voting-fits p c h = with-vote p c h (voteIn p (c .vote)) (c .firm) (go p)
+  where
+    go : (p′ : Protocol) → T (ltb (voteIn p′ (c .vote)) 2)
+    go Agreement = vote-fits p c h
+    go (Posting s) = tt
+
+recast-fits : (p : Protocol) (before : ℕ) (c : Column) → T (ltb before 2) → T (fits p c) → T (fits p (recast p before c))
+unfolding recast voteAfter
+recast-fits p before c b h = with-vote p c h (voteAfter p before (c .vote)) (c .firm) (go p)
+  where
+    go : (p′ : Protocol) → T (ltb (voteAfter p′ before (c .vote)) 2)
+    go Agreement = vote-fits p c h
+    go (Posting s) = b
+
+module _ (p : Protocol) (n m own : ℕ) (bytes : List ℕ) (inbox : ℕ → List ℕ) (accepted : refusal n m own ≡ 0) (poster : refusal n m (beside p) ≡ 0) (full : length bytes ≡ m) where
+  pub listening-fits : (q : ℕ) → q < roundsIn p n → T (fits p (course p n m own bytes inbox q)) → T (fits p (listening p n m own bytes inbox q))
   unfolding stageFits
   listening-fits q l h =
-      with-stage (course n m own bytes inbox q) h (Listen (suc q)) (rw (course-is n m own bytes inbox q l .0 .n-is) (round-fits n (suc q) (omega arith) (omega arith)))
+      with-stage p (course p n m own bytes inbox q) h (Listen (suc q)) (rw (course-is p n m own bytes inbox q l .0 .n-is) (round-fits (roundsIn p n) (suc q) (omega arith) (omega arith)))
 
-  pub course-fits : (q : ℕ) → q ≤ rounds n → T (fits (course n m own bytes inbox q))
-  unfolding course withStage
-  course-fits zero l = fresh-fits n m own bytes accepted full
+  pub course-fits : (q : ℕ) → q ≤ roundsIn p n → T (fits p (course p n m own bytes inbox q))
+  unfolding course withStage voting withVote
+  course-fits zero l = fresh-in-fits p n m own bytes accepted poster full
   course-fits (suc q) l =
-      hears-fits (kindOf n (suc q)) (suc q) (listening n m own bytes inbox q) (inbox (suc q)) (λ e.
-      rw (course-is n m own bytes inbox q (omega arith) .0 .n-is) (before-last n (suc q) l e)) (listening-fits q l (course-fits q (omega arith)))
+      let before = course-fits q (omega arith) in
+      recast-fits p (course p n m own bytes inbox q .vote) _ (vote-fits p (course p n m own bytes inbox q) before)
+      (hears-fits p (kindIn p n (suc q)) (suc q) (voting p (listening p n m own bytes inbox q)) (inbox (suc q)) (λ e.
+      rw (course-is p n m own bytes inbox q (omega arith) .0 .n-is) (before-last p n (suc q) l e)) (voting-fits p (listening p n m own bytes inbox q) (listening-fits q l before)))

@@ -1,5 +1,6 @@
-// A column of a wall: the types of its state and of what its calls answer. What the calls do is defined in specs/, and the third demand
-// is proved of the definitions there. The calls themselves stand above, in a crate of their own; there is no code here.
+// A column of a wall: the types of its state and of what its calls answer. What the calls do, in an agreement and in a posting, is defined
+// in specs/, and the third demand and Definition 3.10 are proved of the definitions there. The calls themselves stand above, in crates of
+// their own; there is no code here.
 
 // What a run ended on. The record's bytes stand in the column.
 pub enum Outcome {
@@ -31,7 +32,7 @@ pub struct Column {
     pub kept: [u16; 32],
 }
 
-// The kinds of rounds. In a king's round the king is one column.
+// The kinds of rounds. In a king's round the king is one column, and in the first round of a posting the poster.
 pub enum Kind {
     Exchange,
     FirstReport,
@@ -41,6 +42,7 @@ pub enum Kind {
     King(u8),
     Points,
     KeptPoints,
+    Post(u8),
 }
 
 // What a call to make a column, to speak or to listen answers: done, or document 01's number of the refusal.

@@ -8,8 +8,8 @@ use Rattle.lists.specs.Lists.{count, listOf, rowsOf, inRow}
 use Rattle.field.specs.Field.{blank}
 use Rattle.sizes.specs.Sizes.{refusal as refusalOfSizes}
 
--- WHAT A VALUE SAYS. "Legal are points in exchange and dissemination, 1 in the reports, 0 and 1 in the king rounds ..; any other value
--- counts as blank."
+-- WHAT A VALUE SAYS. "Legal are points in exchange and dissemination, 1 in the reports, 0 and 1 in the king rounds, 0 to 255 in a poster's
+-- record; any other value counts as blank."
 
 -- "A point is 0 to 256."
 unfoldable pub readPoint : ℕ → ℕ
@@ -20,6 +20,9 @@ readReport v = cond (eqb v 1) v blank
 
 unfoldable pub readBit : ℕ → ℕ
 readBit v = cond (ltb v 2) v blank
+
+unfoldable pub readByte : ℕ → ℕ
+readByte v = cond (ltb v 256) v blank
 
 -- HOW MESSAGES LIE. "Outgoing and incoming messages lie by column number, each as many values long as the round has."
 

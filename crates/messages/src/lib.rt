@@ -7,7 +7,7 @@ ghost use Prim.Native.Nat.{_+_, _*_, _≤_};
 ghost use lib.Dec.{eqb, leb};
 ghost use lib.ListN.{length, getD};
 ghost use Rattle.lists.specs.Lists.{bit};
-ghost use Rattle.messages.specs.Messages.{readPoint, readReport, readBit, said, from, toAll, written, refusal as refusalOf, unlessRefused, toAllRefusal, heard as heardOf, heardFrom, heardOfAll, times as timesOf};
+ghost use Rattle.messages.specs.Messages.{readPoint, readReport, readBit, readByte, said, from, toAll, written, refusal as refusalOf, unlessRefused, toAllRefusal, heard as heardOf, heardFrom, heardOfAll, times as timesOf};
 
 // A point, 0 to 256; any other value is blank.
 pub fn read_point(v: u16) -> u16
@@ -34,6 +34,16 @@ pub fn read_bit(v: u16) -> u16
     ensures { λ r. ⌜ r ≡ readBit v ⌝ }
 {
     if v < 2 {
+        return v;
+    }
+    Field::BLANK
+}
+
+// A byte of a poster's record: the value itself where it is 0 to 255, else blank.
+pub fn read_byte(v: u16) -> u16
+    ensures { λ r. ⌜ r ≡ readByte v ⌝ }
+{
+    if v < 256 {
         return v;
     }
     Field::BLANK

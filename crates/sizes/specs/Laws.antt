@@ -9,7 +9,9 @@ use borrow.Author.Tests.{ltb-false, lt-ltb, le-ltb, le-leb, lt-leb, eq-eqb, ne-e
 use lib.Dec.{eqb, ltb, leb}
 use Rattle.lists.specs.Lists.{sum}
 use Rattle.lists.specs.Entries.{sum-more}
-use Rattle.sizes.specs.Sizes.{faults, degree, blocks, rounds, values, line, outside, refusal}
+use Rattle.sizes.specs.declared.Protocol.{Protocol}
+use Rattle.sizes.specs.declared.Protocol.the-variants.{Agreement, Posting}
+use Rattle.sizes.specs.Sizes.{faults, degree, blocks, rounds, values, line, outside, refusal, postingValues, roundsIn, valuesIn, lineIn, beside}
 
 -- BOUNDS OF ANY SIZES, IN RANGE OR NOT
 
@@ -227,3 +229,49 @@ pub columns-refused : (n : ℕ) → (n < 4) ⊎ (31 < n) → refusal n 1 1 ≡ 1
 unfolding refusal outside
 columns-refused n (inl h) = simp (lt-ltb n 4 h)
 columns-refused n (inr h) = simp (le-ltb n 4 (omega arith), lt-ltb 31 n h)
+
+-- THE RUNS OF EACH PROTOCOL
+
+pub posting-values-le : (n m round : ℕ) → postingValues n m round ≤ 2 * m + 1
+unfolding postingValues
+posting-values-le n m round = go (eqb round 0) (eqb round 1) (eqb round 2) (leb round 4) (leb round 6)
+  where
+    go : (a b c d e : Bool) → cond a 0 (cond b m (cond c (2 * blocks n m) (cond d 1 (cond e (blocks n m) 0)))) ≤ 2 * m + 1
+    go true b c d e = omega arith
+    go false true c d e = omega arith
+    go false false true d e = omega (arith, blocks-le n m)
+    go false false false true e = omega arith
+    go false false false false true = omega (arith, blocks-le n m)
+    go false false false false false = omega arith
+
+pub values-in-le : (p : Protocol) (n m round : ℕ) → valuesIn p n m round ≤ 2 * m + 1
+unfolding valuesIn
+values-in-le Agreement n m round = values-le n m round
+values-in-le (Posting s) n m round = posting-values-le n m round
+
+pub line-in-le : (p : Protocol) (n m : ℕ) → lineIn p n m ≤ 5 * m + 3 * n + 5
+unfolding lineIn
+line-in-le Agreement n m = omega (arith, line-le n m)
+line-in-le (Posting s) n m = omega (arith, blocks-le n m)
+
+pub rounds-in-le : (p : Protocol) (n : ℕ) → roundsIn p n ≤ n + 8
+unfolding roundsIn rounds faults
+rounds-in-le Agreement n = omega arith
+rounds-in-le (Posting s) n = omega arith
+
+-- a run has rounds
+pub rounds-in-some : (p : Protocol) (n : ℕ) → 6 ≤ roundsIn p n
+unfolding roundsIn
+rounds-in-some Agreement n = omega (arith, rounds-are n)
+rounds-in-some (Posting s) n = omega arith
+
+-- the values of all rounds in order are a line
+pub values-in-all : (p : Protocol) (n m : ℕ) → sum (valuesIn p n m) (roundsIn p n) ≡ lineIn p n m
+unfolding roundsIn valuesIn lineIn sum postingValues
+values-in-all Agreement n m = values-all n m
+values-in-all (Posting s) n m = omega arith
+
+-- of a wall in which column 1 stands beside the sizes, nothing is asked by it
+pub beside-accepted : (p : Protocol) (n m own : ℕ) → refusal n m own ≡ 0 → (p ≡ Agreement) → refusal n m (beside p) ≡ 0
+unfolding beside
+beside-accepted p n m own e q = rw q (first-column n m own e)

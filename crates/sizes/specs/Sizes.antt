@@ -2,6 +2,8 @@
 use mathlib.Core.Bool.{Bool, cond, _||_}
 use Prim.Native.Nat.{ℕ, _+_, _-_, _*_, _/_}
 use lib.Dec.{eqb, ltb, leb}
+use Rattle.sizes.specs.declared.Protocol.{Protocol}
+use Rattle.sizes.specs.declared.Protocol.the-variants.{Agreement, Posting}
 
 -- "t = floor((n - 1) / 3)": how many of n columns may be unsound
 unfoldable pub faults : ℕ → ℕ
@@ -37,3 +39,33 @@ outside low high x = ltb x low || ltb high x
 -- "1: n outside 4 to 31. 2: m outside 1 to 32. 3: a column number outside 1 to n." In this order; 0 for none
 unfoldable pub refusal : ℕ → ℕ → ℕ → ℕ
 refusal n m number = cond (outside 4 31 n) 1 (cond (outside 1 32 m) 2 (cond (outside 1 n number) 3 0))
+
+-- THE RUNS OF EACH PROTOCOL. "Protocol 3.11: column s sends its m bytes as values to all ..; then rounds 1 to 3, then the two of dissemination"
+
+-- the values of a message in a posting: m in round 1, 2B in round 2, 1 in rounds 3 and 4, B in rounds 5 and 6; it has no other rounds
+unfoldable pub postingValues : ℕ → ℕ → ℕ → ℕ
+postingValues n m round =
+    cond (eqb round 0) 0
+    (cond (eqb round 1) m
+    (cond (eqb round 2) (2 * blocks n m)
+    (cond (leb round 4) 1
+    (cond (leb round 6) (blocks n m) 0))))
+
+-- "its rounds are 1 to 6"
+unfoldable pub roundsIn : Protocol → ℕ → ℕ
+roundsIn Agreement n = rounds n
+roundsIn (Posting s) n = 6
+
+unfoldable pub valuesIn : Protocol → ℕ → ℕ → ℕ → ℕ
+valuesIn Agreement n m round = values n m round
+valuesIn (Posting s) n m round = postingValues n m round
+
+-- "its lines have m + 4B + 2 values per receiver"
+unfoldable pub lineIn : Protocol → ℕ → ℕ → ℕ
+lineIn Agreement n m = line n m
+lineIn (Posting s) n m = m + 4 * blocks n m + 2
+
+-- the column number that stands beside the sizes: the poster's; in an agreement there is none, and column 1 is never refused
+unfoldable pub beside : Protocol → ℕ
+beside Agreement = 1
+beside (Posting s) = s

@@ -3,7 +3,7 @@
 -- inputs included), Lists (lists of calls, and the premises of a run), Claim (THE THIRD DEMAND as a statement), Gradecast (DEFINITION 3.10 as
 -- a statement). The proofs: Kinds (which round is of which kind), Course (a column's state after each round), Courses, Dispersal,
 -- Dissemination (the courses of the sound columns are runs of the building blocks); of an agreement Agreeing, Phases and Decision (they end on
--- one outcome); of a posting Taken and Outputs (what they output is a gradecast); Endings (what a column that ended answers), Turns (one
+-- one outcome); of a posting Taken and Binding (what they output is a gradecast); Endings (what a column that ended answers), Turns (one
 -- call), Ranges (no call leaves a state out of its ranges), Walk and Runs (lists of calls come to their courses), Theorem (THE THEOREM of an
 -- agreement), Posting (THE THEOREM of a posting). Example: a run that meets the premises.
 pub mod Parts
@@ -22,7 +22,7 @@ pub mod Agreeing
 pub mod Phases
 pub mod Decision
 pub mod Taken
-pub mod Outputs
+pub mod Binding
 pub mod Endings
 pub mod Turns
 pub mod Ranges

@@ -15,7 +15,7 @@ use Rattle.agreement.specs.Gradecast.{Outputs, Posted}
 use Rattle.agreement.specs.Courses.{Courses}
 use Rattle.agreement.specs.Dissemination as E
 use Rattle.agreement.specs.Endings.{ended-answers}
-use Rattle.agreement.specs.Outputs.{disseminates, outGrade, ended-grade, state, took, took-last, g, grade-stays, decides, grades, values, gradecast}
+use Rattle.agreement.specs.Binding.{disseminates, outGrade, ended-grade, state, took, took-last, g, grade-stays, decides, grades, values, gradecast}
 use Rattle.agreement.specs.Runs.{none-refused, courses, at-end, end-fits}
 
 module _ {s n m : ℕ} {H : ℕ → Bool} {held : ℕ → List ℕ} {lists : ℕ → List Item} {out inbox : ℕ → ℕ → List ℕ} (R : Run (Posting s) n m H held lists out inbox) where

@@ -105,6 +105,11 @@ points-fit b kept f h =
     (eq→eqb (readPoint (getD kept k blank)) (getD kept k blank) (f k l))
     (or-past k b (eqb (getD kept k blank) blank) (λ u. eq→eqb (getD kept k blank) blank (h k l u))))
 
+-- one of two records
+either : (P : List ℕ → Type 0) (b : Bool) (r t : List ℕ) → P r → P t → P (cond b r t)
+either P true r t h g = h
+either P false r t h g = g
+
 -- the vote that a grade gives
 first-fits : (g : ℕ) → g < 3 → T (ltb (firstVote g) 2)
 unfolding firstVote
@@ -152,16 +157,18 @@ hears-fits p KeptPoints round c inbox l h = ends-fits p c h (outcomeOf c inbox) 
     decoded-past : (b : Bool) (received : ℕ → ℕ → ℕ) (r : List ℕ) (p : ℕ) → _≡_ {A = Option (List ℕ)} (cond b (recordOf (c .n) (c .m) received) none) (some r) → c .m ≤ p → p < 32 → getD r p 0 ≡ 0
     decoded-past true received r p e u v = record-past (c .n) (c .m) received r p e u v
     decoded-past false received r p e u v = let z : _≡_ {A = ℕ} 0 1 = cc in absurd (omega arith)
-hears-fits p (Post s) round c inbox l h = goes-fits p round _ (l refl) (with-bytes p c h _ (posted-fits (eqb (c .own) s) (all (isByte (postedBy s c inbox)) (c .m))))
+hears-fits p (Post s) round c inbox l h = goes-fits p round _ (l refl) (with-bytes p c h _ (either Fits (eqb (c .own) s) _ _ (bytes-were p c h) (either Fits (all (isByte (postedBy s c inbox)) (c .m)) _ _ sent-fits zeros-fit)))
   where
-    -- its own record, bytes that were sent, or zeros
-    posted-fits : (mine legal : Bool)
-        → T (all (byteFits (c .m) (cond mine (c .bytes) (cond legal (listOf (byteAt (c .m) (postedBy s c inbox)) 32) (replicate 32 0)))) 32)
-    posted-fits true legal = bytes-were p c h
-    posted-fits false true =
+    Fits : List ℕ → Type 0
+    Fits bytes = T (all (byteFits (c .m) bytes) 32)
+
+    sent-fits : Fits (listOf (byteAt (c .m) (postedBy s c inbox)) 32)
+    sent-fits =
         bytes-fit (c .m) (listOf (byteAt (c .m) (postedBy s c inbox)) 32) (λ q l u.
         getD-listOf (byteAt (c .m) (postedBy s c inbox)) 32 q 0 u ∙ rw (le-ltb q (c .m) l) refl)
-    posted-fits false false = bytes-fit (c .m) (replicate 32 0) (λ q l u. getD-replicate 32 q 0 0 u)
+
+    zeros-fit : Fits (replicate 32 0)
+    zeros-fit = bytes-fit (c .m) (replicate 32 0) (λ q l u. getD-replicate 32 q 0 0 u)
 
 -- A FRESH COLUMN
 

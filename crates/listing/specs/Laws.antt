@@ -12,7 +12,8 @@ use lib.Seq.{take-suc, take-length}
 use Rattle.wall_run.specs.declared.Entry.{Entry}
 use Rattle.wall_run.specs.declared.Outcomes.{Outcomes}
 use Rattle.wall_run.specs.Row.{entryAt}
-use Rattle.sizes.specs.Sizes.{faults, degree, blocks, rounds}
+use Rattle.sizes.specs.declared.Protocol.{Protocol}
+use Rattle.sizes.specs.Sizes.{faults, degree, blocks, roundsIn}
 use Rattle.listing.specs.Listing.{ascii, joined, digit, decimal, named, hex, hexAt, hexes, sizesLine, recordText, soundLine, unsoundLine, columnLine, lineAt, columnLines, refusedLine, listing}
 
 -- NUMBERS, by their size
@@ -65,9 +66,9 @@ hexes-le : (m : ℕ) (bytes : List ℕ) → length (hexes m bytes) ≤ m * 2
 unfolding hexes hexAt hex
 hexes-le m bytes = joined-le (hexAt bytes) m 2 (λ p. omega arith)
 
-sizes-le : (n m : ℕ) → length (sizesLine n m) ≤ 47
+sizes-le : (p : Protocol) (n m : ℕ) → length (sizesLine p n m) ≤ 47
 unfolding sizesLine ascii
-sizes-le n m =
+sizes-le p n m =
     simp length-append (omega (
       arith,
       named-le (ascii "wall ") n,
@@ -75,7 +76,7 @@ sizes-le n m =
       named-le (ascii " t ") (faults n),
       named-le (ascii " d ") (degree n),
       named-le (ascii " blocks ") (blocks n m),
-      named-le (ascii " rounds ") (rounds n),
+      named-le (ascii " rounds ") (roundsIn p n),
     ))
 
 record-le : (m : ℕ) (e : Entry) → m ≤ 32 → length (recordText m e) ≤ 64
@@ -106,7 +107,7 @@ unfolding refusedLine ascii
 refused-le why = rw length-append (omega (arith, named-le (ascii "refused ") why))
 
 -- a slice of 3200 bytes holds the listing of every wall
-pub listing-fits : (n m : ℕ) (o : Outcomes) → n ≤ 31 → m ≤ 32 → length (listing n m o) ≤ 3200
+pub listing-fits : (p : Protocol) (n m : ℕ) (o : Outcomes) → n ≤ 31 → m ≤ 32 → length (listing p n m o) ≤ 3200
 unfolding listing
-listing-fits n m o h g =
-    either-le (eqb (o .refusal) 0) _ _ 3200 (rw length-append (omega (arith, sizes-le n m, columns-le n m o h g))) (refused-le (o .refusal))
+listing-fits p n m o h g =
+    either-le (eqb (o .refusal) 0) _ _ 3200 (rw length-append (omega (arith, sizes-le p n m, columns-le n m o h g))) (refused-le (o .refusal))

@@ -11,7 +11,8 @@ use Rattle.wall_run.specs.declared.Outcomes.{Outcomes}
 use Rattle.wall_run.specs.Run.{outcomes}
 use Rattle.wall_run.specs.Row.{entryAt}
 use Rattle.sheet.specs.Sheet.{columns, bytes}
-use Rattle.sizes.specs.Sizes.{faults, degree, blocks, rounds}
+use Rattle.sizes.specs.declared.Protocol.{Protocol}
+use Rattle.sizes.specs.Sizes.{faults, degree, blocks, roundsIn}
 
 -- WORDS AND NUMBERS
 
@@ -59,14 +60,14 @@ hexes m bytes = joined (hexAt bytes) m
 -- LINES
 
 -- "sizes, t, d, B, rounds"
-unfoldable pub sizesLine : ℕ → ℕ → List ℕ
-sizesLine n m =
+unfoldable pub sizesLine : Protocol → ℕ → ℕ → List ℕ
+sizesLine p n m =
     named (ascii "wall ") n
     ++ named (ascii " ") m
     ++ named (ascii " t ") (faults n)
     ++ named (ascii " d ") (degree n)
     ++ named (ascii " blocks ") (blocks n m)
-    ++ named (ascii " rounds ") (rounds n)
+    ++ named (ascii " rounds ") (roundsIn p n)
     ++ ascii "\n"
 
 -- "the outcome .., or `none`"
@@ -104,12 +105,12 @@ unfoldable pub refusedLine : ℕ → List ℕ
 refusedLine why = named (ascii "refused ") why ++ ascii "\n"
 
 -- THE LISTING of n columns and records of m bytes, with what the run came to
-unfoldable pub listing : ℕ → ℕ → Outcomes → List ℕ
-listing n m o = cond (eqb (o .refusal) 0) (sizesLine n m ++ columnLines n m o) (refusedLine (o .refusal))
+unfoldable pub listing : Protocol → ℕ → ℕ → Outcomes → List ℕ
+listing p n m o = cond (eqb (o .refusal) 0) (sizesLine p n m ++ columnLines n m o) (refusedLine (o .refusal))
 
 -- of a sheet, with a row that has a place for each of its columns
-unfoldable pub listingOf : List ℕ → List ℕ
-listingOf sheet = listing (columns sheet) (bytes sheet) (outcomes sheet (columns sheet))
+unfoldable pub listingOf : Protocol → List ℕ → List ℕ
+listingOf p sheet = listing p (columns sheet) (bytes sheet) (outcomes p sheet (columns sheet))
 
 -- what stands in a lent slice after a text was written to its front, as far as there is room; the rest as it was
 unfoldable pub shown : List ℕ → List ℕ → List ℕ

@@ -1,4 +1,5 @@
--- No accepted sheet is longer than 42,565 bytes, and so the first 42,566 bytes of a sheet have the listing of the whole.
+-- No accepted sheet, of an agreement or of a posting, is longer than 42,565 bytes, and so the first 42,566 bytes of a sheet have the listing
+-- of the whole.
 use mathlib.Core.Path.{_≡_, refl, ap}
 use mathlib.Core.Bool.{Bool, true, false}
 use mathlib.Core.List.{List}
@@ -13,7 +14,9 @@ use lib.Seq.{take-all, length-take-le, getD-take}
 use Rattle.lists.specs.Lists.{all}
 use Rattle.lists.specs.Entries.{all-same}
 use Rattle.lists.specs.Count.{count-same}
-use Rattle.sizes.specs.Sizes.{faults, degree, blocks, line, refusal as refusalOfSizes}
+use Rattle.sizes.specs.declared.Protocol.{Protocol}
+use Rattle.sizes.specs.declared.Protocol.the-variants.{Agreement, Posting}
+use Rattle.sizes.specs.Sizes.{faults, degree, blocks, lineIn, refusal as refusalOfSizes, beside}
 use Rattle.sizes.specs.Laws.{InRange, Sized, sized, accepted as accepted-sizes}
 use Rattle.sheet.specs.Sheet.{columns, bytes, mark, unsound, unsoundTo, arrays, whole, markFits, inOrder, refusalOfMarks, refusal as refusalOfSheet}
 use Rattle.wall_run.specs.Run.{refusal}
@@ -22,43 +25,49 @@ use Rattle.listing.specs.Listing.{listingOf}
 
 -- THE LONGEST SHEET
 
--- by bounds for n, t and B: N, T and B
-bounded : (n m u N T B : ℕ) → InRange n m → u ≤ faults n → n ≤ N → faults n ≤ T → blocks n m ≤ B
-    → whole (line n m) n m u ≤ 2 + N + N * 32 + 2 * (T * N * (4 * B + 3 * T + 5))
+-- by bounds for n, t and the values of a line: N, T and L
+bounded : (line n m u N T L : ℕ) → InRange n m → u ≤ faults n → n ≤ N → faults n ≤ T → line ≤ L → whole line n m u ≤ 2 + N + N * 32 + 2 * (T * N * L)
 unfolding whole arrays
-bounded n m u N T B r few hn ht hb =
-    let l : line n m ≤ 4 * B + 3 * T + 5 = omega (arith, sized n m r .line-is) in
+bounded line n m u N T L r few hn ht hl =
     let un : u * n ≤ T * N = mul-le-mul (omega arith) hn in
-    omega (arith, mul-le-mul {n₁ = n} {m₁ = m} {n₂ = N} {m₂ = 32} hn (r .bytes-high), mul-le-mul un l)
+    omega (arith, mul-le-mul {n₁ = n} {m₁ = m} {n₂ = N} {m₂ = 32} hn (r .bytes-high), mul-le-mul un hl)
+
+-- the values of a line, of at most T unsound columns and B blocks
+line-le : (p : Protocol) (n m T B rest : ℕ) → InRange n m → faults n ≤ T → blocks n m ≤ B → 3 * T + 5 ≤ rest → 34 ≤ rest → lineIn p n m ≤ 4 * B + rest
+unfolding lineIn
+line-le Agreement n m T B rest r ht hb a b = omega (arith, sized n m r .line-is)
+line-le (Posting s) n m T B rest r ht hb a b = omega (arith, r .bytes-high)
 
 -- by the degree of a block: with more columns there are fewer blocks
-whole-le : (n m u : ℕ) → InRange n m → u ≤ faults n → whole (line n m) n m u ≤ 42565
-whole-le n m u r few = go (degree n) (sized n m r) refl
+whole-le : (p : Protocol) (n m u : ℕ) → InRange n m → u ≤ faults n → whole (lineIn p n m) n m u ≤ 42565
+whole-le p n m u r few = go (degree n) (sized n m r) refl
   where
-    go : (d : ℕ) → Sized n m → degree n ≡ d → whole (line n m) n m u ≤ 42565
+    by : (N T B rest : ℕ) → n ≤ N → faults n ≤ T → blocks n m ≤ B → 3 * T + 5 ≤ rest → 34 ≤ rest
+        → whole (lineIn p n m) n m u ≤ 2 + N + N * 32 + 2 * (T * N * (4 * B + rest))
+    by N T B rest hn ht hb a b = bounded (lineIn p n m) n m u N T (4 * B + rest) r few hn ht (line-le p n m T B rest r ht hb a b)
+
+    go : (d : ℕ) → Sized n m → degree n ≡ d → whole (lineIn p n m) n m u ≤ 42565
     go zero z e =
         let t : faults n ≤ 2 = omega (arith, z .degree-most) in
-        omega (arith, bounded n m u 9 2 32 r few (omega (arith, z .faults-most)) t (omega (arith, z .blocks-high, r .bytes-high)))
+        omega (arith, by 9 2 32 34 (omega (arith, z .faults-most)) t (omega (arith, z .blocks-high, r .bytes-high)) (omega arith) (omega arith))
     go (suc zero) z e =
         let t : faults n ≤ 5 = omega (arith, z .degree-most) in
-        omega (arith, bounded n m u 18 5 16 r few (omega (arith, z .faults-most)) t (omega (arith, rw e at (z .blocks-least), r .bytes-high)))
+        omega (arith, by 18 5 16 34 (omega (arith, z .faults-most)) t (omega (arith, rw e at (z .blocks-least), r .bytes-high)) (omega arith) (omega arith))
     go (suc (suc zero)) z e =
         let t : faults n ≤ 8 = omega (arith, z .degree-most) in
-        omega (arith, bounded n m u 27 8 11 r few (omega (arith, z .faults-most)) t (omega (arith, rw e at (z .blocks-least), r .bytes-high)))
+        omega (arith, by 27 8 11 34 (omega (arith, z .faults-most)) t (omega (arith, rw e at (z .blocks-least), r .bytes-high)) (omega arith) (omega arith))
     go (suc (suc (suc zero))) z e =
-        omega (arith, bounded n m u 31 10 8 r few (r .columns-high) (z .faults-high) (omega (arith, rw e at (z .blocks-least), r .bytes-high)))
+        omega (arith, by 31 10 8 35 (r .columns-high) (z .faults-high) (omega (arith, rw e at (z .blocks-least), r .bytes-high)) (omega arith) (omega arith))
     go (suc (suc (suc (suc d)))) z e = absurd (omega (arith, z .degree-high))
 
 -- a sheet that nothing refuses is no longer
-pub longest : (sheet : List ℕ) (rows : ℕ) → refusal sheet rows ≡ 0 → length sheet ≤ 42565
-longest sheet rows e =
-    let a = accepted-run sheet rows e in
-    rw (a .well-marked .full) (whole-le (columns sheet) (bytes sheet) (unsoundTo sheet (columns sheet)) (a .arrays-there .range) (a .well-marked .few))
-
--- WHAT STANDS BEHIND 42,566 BYTES
+pub longest : (p : Protocol) (sheet : List ℕ) (rows : ℕ) → refusal p sheet rows ≡ 0 → length sheet ≤ 42565
+longest p sheet rows e =
+    let a = accepted-run p sheet rows e .0 in
+    rw (a .well-marked .full) (whole-le p (columns sheet) (bytes sheet) (unsoundTo sheet (columns sheet)) (a .arrays-there .range) (a .well-marked .few))
 
 -- two sheets that are too long and begin with the same bytes: what is read of them before their length stands there
-module _ (a b : List ℕ) (la : 42565 < length a) (lb : 42565 < length b) (same : (i : ℕ) → i ≤ 42565 → getD a i 0 ≡ getD b i 0) where
+module _ (p : Protocol) (a b : List ℕ) (la : 42565 < length a) (lb : 42565 < length b) (same : (i : ℕ) → i ≤ 42565 → getD a i 0 ≡ getD b i 0) where
   same-columns : columns a ≡ columns b
   unfolding columns
   same-columns = same 0 (omega arith)
@@ -76,7 +85,7 @@ module _ (a b : List ℕ) (la : 42565 < length a) (lb : 42565 < length b) (same 
   same-unsound h = count-same (unsound a) (unsound b) (columns b) (λ i l u. ap (λ (x : ℕ). eqb x 1) (same (i + 1) (omega arith)))
 
   -- neither has its full length
-  same-marks : InRange (columns b) (bytes b) → refusalOfMarks (line (columns b) (bytes b)) a ≡ refusalOfMarks (line (columns b) (bytes b)) b
+  same-marks : InRange (columns b) (bytes b) → refusalOfMarks (lineIn p (columns b) (bytes b)) a ≡ refusalOfMarks (lineIn p (columns b) (bytes b)) b
   unfolding refusalOfMarks inOrder
   same-marks r = go (leb u (faults (columns b))) refl
     where
@@ -84,46 +93,46 @@ module _ (a b : List ℕ) (la : 42565 < length a) (lb : 42565 < length b) (same 
       u = unsoundTo b (columns b)
 
       full : ℕ
-      full = whole (line (columns b) (bytes b)) (columns b) (bytes b) u
+      full = whole (lineIn p (columns b) (bytes b)) (columns b) (bytes b) u
 
-      go : (t : Bool) → leb u (faults (columns b)) ≡ t → refusalOfMarks (line (columns b) (bytes b)) a ≡ refusalOfMarks (line (columns b) (bytes b)) b
+      go : (t : Bool) → leb u (faults (columns b)) ≡ t → refusalOfMarks (lineIn p (columns b) (bytes b)) a ≡ refusalOfMarks (lineIn p (columns b) (bytes b)) b
       go false e = simp (same-columns, same-bytes, same-fits (r .columns-high), same-unsound (r .columns-high), e)
       go true e =
-          let w : full ≤ 42565 = whole-le (columns b) (bytes b) u r (leb-true _ _ e) in
+          let w : full ≤ 42565 = whole-le p (columns b) (bytes b) u r (leb-true _ _ e) in
           let na = ne-eqb (length a) full (λ q. omega arith) in
           let nb = ne-eqb (length b) full (λ q. omega arith) in
           simp (same-columns, same-bytes, same-fits (r .columns-high), same-unsound (r .columns-high), e, na, nb)
 
-  same-refusal : refusal a (columns a) ≡ refusal b (columns b)
+  same-refusal : refusal p a (columns a) ≡ refusal p b (columns b)
   unfolding refusal refusalOfSheet whole
-  same-refusal = go (eqb (refusalOfSizes (columns b) (bytes b) 1) 0) refl
+  same-refusal = go (eqb (refusalOfSizes (columns b) (bytes b) (beside p)) 0) refl
     where
-      go : (t : Bool) → eqb (refusalOfSizes (columns b) (bytes b) 1) 0 ≡ t → refusal a (columns a) ≡ refusal b (columns b)
+      go : (t : Bool) → eqb (refusalOfSizes (columns b) (bytes b) (beside p)) 0 ≡ t → refusal p a (columns a) ≡ refusal p b (columns b)
       go true e =
-          let r = accepted-sizes (columns b) (bytes b) 1 (eqb-true _ 0 e) .range in
-          let w = whole-le (columns b) (bytes b) 0 r (omega arith) in
+          let r = accepted-sizes (columns b) (bytes b) (beside p) (eqb-true _ 0 e) .range in
+          let w = whole-le p (columns b) (bytes b) 0 r (omega arith) in
           let na = le-ltb (length a) (arrays (columns b) (bytes b)) (omega arith) in
           let nb = le-ltb (length b) (arrays (columns b) (bytes b)) (omega arith) in
           simp (same-columns, same-bytes, le-ltb (length a) 2 (omega arith), le-ltb (length b) 2 (omega arith), e, na, nb, same-marks r)
       go false e = simp (same-columns, same-bytes, le-ltb (length a) 2 (omega arith), le-ltb (length b) 2 (omega arith), e)
 
-  same-listing : listingOf a ≡ listingOf b
+  same-listing : listingOf p a ≡ listingOf p b
   unfolding listingOf
   same-listing =
       rw (
-        run-refused a (columns a) (λ e. omega (arith, longest a (columns a) e)),
-        run-refused b (columns b) (λ e. omega (arith, longest b (columns b) e)),
+        run-refused p a (columns a) (λ e. omega (arith, longest p a (columns a) e)),
+        run-refused p b (columns b) (λ e. omega (arith, longest p b (columns b) e)),
         same-refusal,
         same-columns,
         same-bytes,
       ) refl
 
 -- reading 42,566 bytes of a sheet loses nothing
-pub cut-alike : (sheet : List ℕ) → listingOf (take 42566 sheet) ≡ listingOf sheet
-cut-alike sheet = go (decLe (length sheet) 42566)
+pub cut-alike : (p : Protocol) (sheet : List ℕ) → listingOf p (take 42566 sheet) ≡ listingOf p sheet
+cut-alike p sheet = go (decLe (length sheet) 42566)
   where
-    go : Dec (length sheet ≤ 42566) → listingOf (take 42566 sheet) ≡ listingOf sheet
-    go (yes h) = ap listingOf (take-all 42566 sheet h)
+    go : Dec (length sheet ≤ 42566) → listingOf p (take 42566 sheet) ≡ listingOf p sheet
+    go (yes h) = ap (listingOf p) (take-all 42566 sheet h)
     go (no h) =
-        same-listing (take 42566 sheet) sheet (omega (arith, length-take-le 42566 sheet (omega arith))) (omega arith)
+        same-listing p (take 42566 sheet) sheet (omega (arith, length-take-le 42566 sheet (omega arith))) (omega arith)
         (λ i l. getD-take 42566 sheet i 0 (omega arith))

@@ -2,6 +2,7 @@
 mod lines;
 mod text;
 
+use sizes::Protocol;
 use wall_run::Outcomes;
 ghost use mathlib.Core.Path.{_≡_};
 ghost use Prim.Native.Nat.{min};
@@ -9,12 +10,12 @@ ghost use lib.ListN.{length};
 ghost use Rattle.listing.specs.Listing.{listing, listingOf, shown};
 
 // The listing of a wall of n columns and records of m bytes, of what its run came to.
-fn write_outcomes(n: u8, m: u8, o: Outcomes, out: &mut [u8]) -> usize
-    ensures { λ r. ⌜ (r ≡ min (length (listing n m o)) (length (now (out .entry)))) × (now (out .exit) ≡ shown (listing n m o) (now (out .entry))) ⌝ }
+fn write_outcomes(protocol: Protocol, n: u8, m: u8, o: Outcomes, out: &mut [u8]) -> usize
+    ensures { λ r. ⌜ (r ≡ min (length (listing protocol n m o)) (length (now (out .entry)))) × (now (out .exit) ≡ shown (listing protocol n m o) (now (out .entry))) ⌝ }
 {
     let why = o.refusal;
     if why == 0 {
-        let at = lines::put_sizes(out, 0, n, m);
+        let at = lines::put_sizes(out, 0, protocol, n, m);
         return lines::put_columns(out, at, n, m, o);
     }
     lines::put_refused(out, 0, why)
@@ -22,10 +23,16 @@ fn write_outcomes(n: u8, m: u8, o: Outcomes, out: &mut [u8]) -> usize
 
 // Runs the wall that a sheet describes and writes its listing to the front of the slice, as far as there is room: answers how many bytes of
 // the slice hold it. A slice of 3,200 bytes holds every listing whole.
-pub fn write(sheet: &[u8], out: &mut [u8]) -> usize
-    ensures { λ r. ⌜ (r ≡ min (length (listingOf (now (sheet .entry)))) (length (now (out .entry)))) × (now (out .exit) ≡ shown (listingOf (now (sheet .entry))) (now (out .entry))) ⌝ }
+pub fn write(protocol: Protocol, sheet: &[u8], out: &mut [u8]) -> usize
+    ensures { λ r. ⌜ (r ≡ min (length (listingOf protocol (now (sheet .entry)))) (length (now (out .entry)))) × (now (out .exit) ≡ shown (listingOf protocol (now (sheet .entry))) (now (out .entry))) ⌝ }
 {
     let n = sheet::columns(sheet);
     let m = sheet::bytes(sheet);
-    write_outcomes(n, m, wall_run::outcomes_of(sheet, n as usize), out)
+    write_outcomes(
+        protocol,
+        n,
+        m,
+        wall_run::outcomes_of(protocol, sheet, n as usize),
+        out,
+    )
 }

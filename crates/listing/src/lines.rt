@@ -1,20 +1,21 @@
 // The lines of a listing.
 use super::text;
+use sizes::Protocol;
 use wall_run::Entry;
 use wall_run::Outcomes;
 ghost use Rattle.listing.specs.Listing.{sizesLine, recordText, soundLine, unsoundLine, columnLine, lineAt, columnLines, refusedLine};
 ghost use Rattle.listing.specs.Writing.{Puts};
 
 // The sizes of a wall: n and m, t, d, B and the rounds of a run.
-pub(super) fn put_sizes(out: &mut [u8], at: usize, n: u8, m: u8) -> usize
-    ensures { λ r. ⌜ Puts (sizesLine n m) (now (out .entry)) at (now (out .exit)) r ⌝ }
+pub(super) fn put_sizes(out: &mut [u8], at: usize, protocol: Protocol, n: u8, m: u8) -> usize
+    ensures { λ r. ⌜ Puts (sizesLine protocol n m) (now (out .entry)) at (now (out .exit)) r ⌝ }
 {
     let at = text::put_named(out, at, b"wall ", n as usize);
     let at = text::put_named(out, at, b" ", m as usize);
     let at = text::put_named(out, at, b" t ", sizes::faults(n));
     let at = text::put_named(out, at, b" d ", sizes::degree(n));
     let at = text::put_named(out, at, b" blocks ", sizes::blocks(n, m));
-    let at = text::put_named(out, at, b" rounds ", sizes::rounds(n));
+    let at = text::put_named(out, at, b" rounds ", sizes::rounds_in(protocol, n));
     text::put(out, at, b"\n")
 }
 

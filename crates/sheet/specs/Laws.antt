@@ -68,23 +68,30 @@ pub record Accepted (line : ℕ) (sheet : List ℕ) (rows : ℕ) : Type 0 where
   pub rows-are : rows ≡ columns sheet
   pub well-marked : Marked line sheet
 
-pub accepted : (number line : ℕ) (sheet : List ℕ) (rows : ℕ) → refusal number line sheet rows ≡ 0 → Accepted line sheet rows
+-- and the number beside it is that of a column
+pub accepted : (number line : ℕ) (sheet : List ℕ) (rows : ℕ) → refusal number line sheet rows ≡ 0
+    → Accepted line sheet rows × (refusalOfSizes (columns sheet) (bytes sheet) number ≡ 0)
 unfolding refusal
 accepted number line sheet rows =
     go (ltb (length sheet) 2) (eqb (refusalOfSizes (columns sheet) (bytes sheet) number) 0) (ltb (length sheet) (arrays (columns sheet) (bytes sheet))) (eqb rows (columns sheet)) refl refl refl refl
   where
     go : (a b c d : Bool) → ltb (length sheet) 2 ≡ a → eqb (refusalOfSizes (columns sheet) (bytes sheet) number) 0 ≡ b → ltb (length sheet) (arrays (columns sheet) (bytes sheet)) ≡ c → eqb rows (columns sheet) ≡ d
-        → _≡_ {A = ℕ} (cond a 4 (cond (not b) (refusalOfSizes (columns sheet) (bytes sheet) number) (cond c 4 (cond (not d) 4 (refusalOfMarks line sheet))))) 0 → Accepted line sheet rows
+        → _≡_ {A = ℕ} (cond a 4 (cond (not b) (refusalOfSizes (columns sheet) (bytes sheet) number) (cond c 4 (cond (not d) 4 (refusalOfMarks line sheet))))) 0
+        → Accepted line sheet rows × (refusalOfSizes (columns sheet) (bytes sheet) number ≡ 0)
     go true b c d ea eb ec ed h = absurd (omega arith)
     go false false c d ea eb ec ed h = let q : T (eqb (refusalOfSizes (columns sheet) (bytes sheet) number) 0) = rw h tt in absurd (rw eb at q)
     go false true true d ea eb ec ed h = absurd (omega arith)
     go false true false false ea eb ec ed h = absurd (omega arith)
     go false true false true ea eb ec ed h =
-        record {
-          arrays-there = record { range = accepted-sizes _ _ _ (eqb→eq _ _ (passes _ eb)) .range; long = ltb-false _ _ ec };
-          rows-are = eqb→eq _ _ (passes _ ed);
-          well-marked = marked line sheet h;
-        }
+        let number-fits = eqb→eq _ _ (passes _ eb) in
+        (
+          record {
+            arrays-there = record { range = accepted-sizes _ _ _ number-fits .range; long = ltb-false _ _ ec };
+            rows-are = eqb→eq _ _ (passes _ ed);
+            well-marked = marked line sheet h;
+          },
+          number-fits,
+        )
 
 -- its records have m bytes
 module _ (sheet : List ℕ) (there : Arrays sheet) (i : ℕ) (l : i < columns sheet) where

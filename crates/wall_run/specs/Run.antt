@@ -1,4 +1,5 @@
--- The definitions of a run of a whole wall. Document 01, "A whole wall": "The wall run drives n columns with the same calls."
+-- The definitions of a run of a whole wall, in an agreement or in a posting. Document 01, "A whole wall": "The wall run drives n columns with
+-- the same calls."; and "Posting by one column".
 use mathlib.Core.Bool.{Bool, true, false, cond}
 use mathlib.Core.List.{List, _++_}
 use Prim.Native.Nat.{ℕ, zero, suc, _+_, _-_, _*_}
@@ -6,13 +7,15 @@ use lib.Dec.{eqb}
 use lib.ListN.{length, getD, drop, replicate}
 use Rattle.lists.specs.Lists.{sum, listOf, rowsOf}
 use Rattle.field.specs.Field.{blank}
-use Rattle.sizes.specs.Sizes.{rounds, values, line}
+use Rattle.sizes.specs.declared.Protocol.{Protocol}
+use Rattle.sizes.specs.declared.Protocol.the-variants.{Agreement, Posting}
+use Rattle.sizes.specs.Sizes.{roundsIn, valuesIn, lineIn, beside}
 use Rattle.messages.specs.Messages.{said}
 use Rattle.agreement.specs.declared.Outcome.the-variants.{Nothing, Record}
 use Rattle.agreement.specs.declared.Reply.{Reply}
 use Rattle.agreement.specs.declared.Reply.the-variants.{Ended, Refused}
 use Rattle.agreement.specs.declared.Column.{Column}
-use Rattle.agreement.specs.Calls.{fresh, noColumn, speak, written, listen, outcome}
+use Rattle.agreement.specs.Calls.{fresh, noColumn, speak, written, listen, outcome, gradeIn}
 use Rattle.sheet.specs.Sheet.{columns, bytes, mark, sound, recordOf, refusal as refusalOfSheet}
 use Rattle.delivery.specs.declared.Round.{Round}
 use Rattle.delivery.specs.Delivery.{inbox}
@@ -34,54 +37,54 @@ unfoldable pub each : ℕ → (ℕ → Column → Column) → List Column → Li
 each n f wall = listOf (turned f wall) n ++ drop n wall
 
 -- column i + 1 is made with its number and its record
-unfoldable pub made : List ℕ → ℕ → Column
-made sheet i = fresh (columns sheet) (bytes sheet) (i + 1) (recordOf sheet (i + 1)) .column
+unfoldable pub made : Protocol → List ℕ → ℕ → Column
+made p sheet i = fresh p (columns sheet) (bytes sheet) (i + 1) (recordOf sheet (i + 1)) .column
 
-unfoldable pub start : List ℕ → List Column
-start sheet = listOf (made sheet) (columns sheet) ++ drop (columns sheet) (replicate 31 noColumn)
+unfoldable pub start : Protocol → List ℕ → List Column
+start p sheet = listOf (made p sheet) (columns sheet) ++ drop (columns sheet) (replicate 31 noColumn)
 
 -- A ROUND. "An unsound column's messages come from its lines"; the sound columns are called
 
 -- round r: its place in the lines, and the values of a message
-unfoldable pub roundAt : List ℕ → ℕ → Round
-roundAt sheet r =
-    record { line = line (columns sheet) (bytes sheet); offset = sum (values (columns sheet) (bytes sheet)) (r - 1); width = values (columns sheet) (bytes sheet) r }
+unfoldable pub roundAt : Protocol → List ℕ → ℕ → Round
+roundAt p sheet r =
+    record { line = lineIn p (columns sheet) (bytes sheet); offset = sum (valuesIn p (columns sheet) (bytes sheet)) (r - 1); width = valuesIn p (columns sheet) (bytes sheet) r }
 
 -- the slice that a column is lent to speak: one message of w values for each of n columns, blank
 unfoldable pub blanks : ℕ → ℕ → List ℕ
 blanks n w = replicate (n * w) blank
 
 -- column i spoke: its state, and what it said
-unfoldable pub spoken : List ℕ → ℕ → ℕ → Column → Column
-spoken sheet w i c = cond (sound sheet i) (speak c (blanks (columns sheet) w) .column) c
+unfoldable pub spoken : Protocol → List ℕ → ℕ → ℕ → Column → Column
+spoken p sheet w i c = cond (sound sheet i) (speak p c (blanks (columns sheet) w) .column) c
 
-unfoldable pub words : List ℕ → ℕ → ℕ → Column → List ℕ
-words sheet w i c = cond (sound sheet i) (written c (blanks (columns sheet) w)) (blanks (columns sheet) w)
+unfoldable pub words : Protocol → List ℕ → ℕ → ℕ → Column → List ℕ
+words p sheet w i c = cond (sound sheet i) (written p c (blanks (columns sheet) w)) (blanks (columns sheet) w)
 
 -- what column j of the wall said
-unfoldable pub wordsOf : List ℕ → ℕ → List Column → ℕ → ℕ → ℕ
-wordsOf sheet w wall j = said (words sheet w j (columnAt wall j))
+unfoldable pub wordsOf : Protocol → List ℕ → ℕ → List Column → ℕ → ℕ → ℕ
+wordsOf p sheet w wall j = said (words p sheet w j (columnAt wall j))
 
 -- what all columns said, by the sender's number
-unfoldable pub mail : List ℕ → ℕ → List Column → List ℕ
-mail sheet w wall = rowsOf (wordsOf sheet w wall) (columns sheet * w) (columns sheet)
+unfoldable pub mail : Protocol → List ℕ → ℕ → List Column → List ℕ
+mail p sheet w wall = rowsOf (wordsOf p sheet w wall) (columns sheet * w) (columns sheet)
 
 -- column i listens to what the mail and the lines have for it
-unfoldable pub heard : List ℕ → Round → List ℕ → ℕ → Column → Column
-heard sheet round letters i c = cond (sound sheet i) (listen c (inbox sheet round letters i) .column) c
+unfoldable pub heard : Protocol → List ℕ → Round → List ℕ → ℕ → Column → Column
+heard p sheet round letters i c = cond (sound sheet i) (listen p c (inbox sheet round letters i) .column) c
 
 -- first all speak, then all listen
-unfoldable pub played : List ℕ → Round → List Column → List Column
-played sheet round wall =
-    each (columns sheet) (heard sheet round (mail sheet (round .width) wall)) (each (columns sheet) (spoken sheet (round .width)) wall)
+unfoldable pub played : Protocol → List ℕ → Round → List Column → List Column
+played p sheet round wall =
+    each (columns sheet) (heard p sheet round (mail p sheet (round .width) wall)) (each (columns sheet) (spoken p sheet (round .width)) wall)
 
 -- the columns after q rounds, and after all
-unfoldable pub after : List ℕ → ℕ → List Column
-after sheet zero = start sheet
-after sheet (suc q) = played sheet (roundAt sheet (suc q)) (after sheet q)
+unfoldable pub after : Protocol → List ℕ → ℕ → List Column
+after p sheet zero = start p sheet
+after p sheet (suc q) = played p sheet (roundAt p sheet (suc q)) (after p sheet q)
 
-unfoldable pub ended : List ℕ → List Column
-ended sheet = after sheet (rounds (columns sheet))
+unfoldable pub ended : Protocol → List ℕ → List Column
+ended p sheet = after p sheet (roundsIn p (columns sheet))
 
 -- THE ENTRIES. "An entry holds the mark, dispersal grade, last vote, whether the column ended on a record, and 32 record bytes, zeros past m
 -- or without a record; an unsound column's entry is its mark and zeros."
@@ -94,40 +97,52 @@ hasRecord (Refused why) = false
 unfoldable pub markOnly : ℕ → Entry
 markOnly mark = record { mark = mark; grade = 0; vote = 0; has_record = false; bytes = replicate 32 0 }
 
-unfoldable pub soundEntry : Column → Entry
-soundEntry c = record { mark = 0; grade = c .grade; vote = c .vote; has_record = hasRecord (outcome c .reply); bytes = outcome c .bytes }
+-- the grade that an entry shows: the dispersal grade, and of a posting "the outcome's grade"
+unfoldable pub gradeShown : Protocol → ℕ → Reply → ℕ
+gradeShown Agreement grade reply = grade
+gradeShown (Posting s) grade reply = gradeIn grade reply
+
+unfoldable pub soundEntry : Protocol → Column → Entry
+soundEntry p c =
+    record {
+      mark = 0;
+      grade = gradeShown p (c .grade) (outcome p c .reply);
+      vote = c .vote;
+      has_record = hasRecord (outcome p c .reply);
+      bytes = outcome p c .bytes;
+    }
 
 -- the entry of column i, which came to c
-unfoldable pub entryOf : List ℕ → ℕ → Column → Entry
-entryOf sheet i c = cond (sound sheet i) (soundEntry c) (markOnly (mark sheet i))
+unfoldable pub entryOf : Protocol → List ℕ → ℕ → Column → Entry
+entryOf p sheet i c = cond (sound sheet i) (soundEntry p c) (markOnly (mark sheet i))
 
 -- the entry of the column that i others stand before
-unfoldable pub entryIn : List ℕ → List Column → ℕ → Entry
-entryIn sheet wall i = entryOf sheet (i + 1) (getD wall i noColumn)
+unfoldable pub entryIn : Protocol → List ℕ → List Column → ℕ → Entry
+entryIn p sheet wall i = entryOf p sheet (i + 1) (getD wall i noColumn)
 
 -- "written to a lent row of entries, one for each column"
-unfoldable pub entries : List ℕ → List Entry
-entries sheet = listOf (entryIn sheet (ended sheet)) (columns sheet)
+unfoldable pub entries : Protocol → List ℕ → List Entry
+entries p sheet = listOf (entryIn p sheet (ended p sheet)) (columns sheet)
 
 -- THE RUN
 
--- the refusal of a sheet and a row of `rows` entries; a wall's sheet has no column number beside it, and column 1 is never refused
-unfoldable pub refusal : List ℕ → ℕ → ℕ
-refusal sheet rows = refusalOfSheet 1 (line (columns sheet) (bytes sheet)) sheet rows
+-- the refusal of a sheet and a row of `rows` entries; "a posting wall takes s beside the sheet"
+unfoldable pub refusal : Protocol → List ℕ → ℕ → ℕ
+refusal p sheet rows = refusalOfSheet (beside p) (lineIn p (columns sheet) (bytes sheet)) sheet rows
 
 -- the row after the run; "no lent slice is written" where it is refused
-unfoldable pub rowAfter : List ℕ → List Entry → List Entry
-rowAfter sheet row = cond (eqb (refusal sheet (length row)) 0) (entries sheet) row
+unfoldable pub rowAfter : Protocol → List ℕ → List Entry → List Entry
+rowAfter p sheet row = cond (eqb (refusal p sheet (length row)) 0) (entries p sheet) row
 
 -- what a run comes to, for a row of `rows` entries: the entries in 31 places, zeros past n; zeros alone where it is refused
-unfoldable pub inPlaces : List ℕ → List Column → List Entry
-inPlaces sheet wall = listOf (entryIn sheet wall) (columns sheet) ++ drop (columns sheet) (replicate 31 (markOnly 0))
+unfoldable pub inPlaces : Protocol → List ℕ → List Column → List Entry
+inPlaces p sheet wall = listOf (entryIn p sheet wall) (columns sheet) ++ drop (columns sheet) (replicate 31 (markOnly 0))
 
-unfoldable pub settled : List ℕ → Outcomes
-settled sheet = record { refusal = 0; count = columns sheet; entries = inPlaces sheet (ended sheet) }
+unfoldable pub settled : Protocol → List ℕ → Outcomes
+settled p sheet = record { refusal = 0; count = columns sheet; entries = inPlaces p sheet (ended p sheet) }
 
 unfoldable pub refused : ℕ → Outcomes
 refused why = record { refusal = why; count = 0; entries = replicate 31 (markOnly 0) }
 
-unfoldable pub outcomes : List ℕ → ℕ → Outcomes
-outcomes sheet rows = cond (eqb (refusal sheet rows) 0) (settled sheet) (refused (refusal sheet rows))
+unfoldable pub outcomes : Protocol → List ℕ → ℕ → Outcomes
+outcomes p sheet rows = cond (eqb (refusal p sheet rows) 0) (settled p sheet) (refused (refusal p sheet rows))

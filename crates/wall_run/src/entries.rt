@@ -1,13 +1,14 @@
 // What the columns came to.
 use crate::Entry;
-use column::Column;
-use column::Outcome;
-use column::Reply;
+use agreement::Column;
+use agreement::Outcome;
+use agreement::Reply;
+use sizes::Protocol;
 ghost use mathlib.Core.Path.{_≡_};
 ghost use Prim.Native.Nat.{_+_, _<_, _≤_};
 ghost use Rattle.sheet.specs.Sheet.{columns};
 ghost use Rattle.agreement.specs.declared.Reply.the-variants.{Ended};
-ghost use Rattle.wall_run.specs.Run.{hasRecord, markOnly, soundEntry, entryOf, inPlaces};
+ghost use Rattle.wall_run.specs.Run.{hasRecord, markOnly, gradeShown, soundEntry, entryOf, inPlaces};
 
 fn is_record(outcome: Outcome) -> bool
     ensures { λ r. ⌜ r ≡ hasRecord (Ended outcome) ⌝ }
@@ -41,16 +42,26 @@ pub(super) fn mark_only(mark: u8) -> Entry
     }
 }
 
-// The entry of a sound column.
-fn sound_entry(column: Column) -> Entry
-    ensures { λ r. ⌜ r ≡ soundEntry column ⌝ }
+// The grade that an entry shows: the dispersal grade, or in a posting that of the outcome.
+fn grade_shown(protocol: Protocol, grade: u8, reply: Reply) -> u8
+    ensures { λ r. ⌜ r ≡ gradeShown protocol grade reply ⌝ }
 {
-    let asked = column::outcome(column);
+    match protocol {
+        Protocol::Agreement => grade,
+        Protocol::Posting(_) => posting::grade_in(grade, reply),
+    }
+}
+
+// The entry of a sound column.
+fn sound_entry(protocol: Protocol, column: Column) -> Entry
+    ensures { λ r. ⌜ r ≡ soundEntry protocol column ⌝ }
+{
+    let asked = calls::outcome(protocol, column);
     let reply = asked.reply;
     let bytes = asked.bytes;
     Entry {
         mark: 0,
-        grade: column.grade,
+        grade: grade_shown(protocol, column.grade, reply),
         vote: column.vote,
         has_record: has_record(reply),
         bytes: bytes,
@@ -58,20 +69,20 @@ fn sound_entry(column: Column) -> Entry
 }
 
 // The entry of column i + 1.
-fn entry(sheet: &[u8], i: u8, column: Column) -> Entry
+fn entry(protocol: Protocol, sheet: &[u8], i: u8, column: Column) -> Entry
     requires { ⌜ i < 255 ⌝ }
-    ensures { λ r. ⌜ r ≡ entryOf (now (sheet .entry)) (i + 1) column ⌝ }
+    ensures { λ r. ⌜ r ≡ entryOf protocol (now (sheet .entry)) (i + 1) column ⌝ }
 {
     if sheet::sound(sheet, i + 1) {
-        return sound_entry(column);
+        return sound_entry(protocol, column);
     }
     mark_only(sheet::mark(sheet, i + 1))
 }
 
 // All entries, zeros past n.
-pub(super) fn all(sheet: &[u8], wall: [Column; 31]) -> [Entry; 31]
+pub(super) fn all(protocol: Protocol, sheet: &[u8], wall: [Column; 31]) -> [Entry; 31]
     requires { ⌜ columns (now sheet) ≤ 31 ⌝ }
-    ensures { λ r. ⌜ r ≡ inPlaces (now (sheet .entry)) wall ⌝ }
+    ensures { λ r. ⌜ r ≡ inPlaces protocol (now (sheet .entry)) wall ⌝ }
 {
     let n = sheet::columns(sheet);
     let none = mark_only(0);
@@ -79,7 +90,7 @@ pub(super) fn all(sheet: &[u8], wall: [Column; 31]) -> [Entry; 31]
     for i in 0..n {
         let at = i as usize;
         let column = wall[at];
-        entries[at] = entry(sheet, i, column);
+        entries[at] = entry(protocol, sheet, i, column);
     }
     entries
 }

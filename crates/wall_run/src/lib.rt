@@ -1,4 +1,5 @@
-// A whole wall: n columns driven by the calls of `column` through all rounds, the unsound ones speaking from their lines of the sheet.
+// A whole wall: n columns driven by their calls through all rounds of a protocol, an agreement or a posting, the unsound ones speaking from
+// their lines of the sheet.
 mod entries;
 mod listening;
 mod rounds;
@@ -7,12 +8,13 @@ mod space;
 mod speaking;
 mod start;
 
+pub use sizes::Protocol;
 ghost use mathlib.Core.Path.{_≡_};
 ghost use lib.ListN.{length};
 ghost use Rattle.wall_run.specs.Run.{refusal as refusalOf, rowAfter, outcomes};
 
-// What one column came to: its mark, the grade with which it left dispersal, its last vote, whether it ended on a record, and the record's
-// bytes, zeros past m and where there is none. The entry of an unsound column is its mark and zeros.
+// What one column came to: its mark, the grade with which it left dispersal, or in a posting that of its outcome, its last vote, whether it
+// ended on a record, and the record's bytes, zeros past m and where there is none. The entry of an unsound column is its mark and zeros.
 pub struct Entry {
     pub mark: u8,
     pub grade: u8,
@@ -29,20 +31,26 @@ pub struct Outcomes {
     pub entries: [Entry; 31],
 }
 
-// The refusal of a sheet, for a row of `rows` entries: 1, 2, 4, 5, 6 as document 01 numbers and orders them, or 0 for none.
-pub fn refusal(sheet: &[u8], rows: usize) -> u8
-    ensures { λ r. ⌜ r ≡ refusalOf (now (sheet .entry)) rows ⌝ }
+// The refusal of a sheet, for a row of `rows` entries: 1, 2, 3 for the poster of a posting, 4, 5, 6 as document 01 numbers and orders them,
+// or 0 for none.
+pub fn refusal(protocol: Protocol, sheet: &[u8], rows: usize) -> u8
+    ensures { λ r. ⌜ r ≡ refusalOf protocol (now (sheet .entry)) rows ⌝ }
 {
     let n = sheet::columns(sheet);
     let m = sheet::bytes(sheet);
-    sheet::refusal(1, sizes::line(n, m) as u16, sheet, rows)
+    sheet::refusal(
+        sizes::beside(protocol),
+        sizes::line_in(protocol, n, m) as u16,
+        sheet,
+        rows,
+    )
 }
 
 // Runs the wall that a sheet describes, for a row of `rows` entries, and answers in numbers.
-pub fn outcomes_of(sheet: &[u8], rows: usize) -> Outcomes
-    ensures { λ r. ⌜ r ≡ outcomes (now (sheet .entry)) rows ⌝ }
+pub fn outcomes_of(protocol: Protocol, sheet: &[u8], rows: usize) -> Outcomes
+    ensures { λ r. ⌜ r ≡ outcomes protocol (now (sheet .entry)) rows ⌝ }
 {
-    let why = refusal(sheet, rows);
+    let why = refusal(protocol, sheet, rows);
     if why != 0 {
         let none = entries::mark_only(0);
         let entries = [none; 31];
@@ -52,8 +60,8 @@ pub fn outcomes_of(sheet: &[u8], rows: usize) -> Outcomes
             entries: entries,
         };
     }
-    let wall = rounds::ended(sheet);
-    let entries = entries::all(sheet, wall);
+    let wall = rounds::ended(protocol, sheet);
+    let entries = entries::all(protocol, sheet, wall);
     Outcomes {
         refusal: 0,
         count: sheet::columns(sheet) as usize,
@@ -63,10 +71,10 @@ pub fn outcomes_of(sheet: &[u8], rows: usize) -> Outcomes
 
 // Runs the wall that a sheet describes and writes each column's entry to the row, which must have as many places as the wall has columns.
 // Answers 0, or the number of the refusal; then no entry is written.
-pub fn run<'a>(sheet: &'a [u8], row: &'a mut [Entry]) -> u8
-    ensures { λ r. ⌜ (r ≡ refusalOf (now (sheet .entry)) (length (now (row .entry)))) × (now (row .exit) ≡ rowAfter (now (sheet .entry)) (now (row .entry))) ⌝ }
+pub fn run<'a>(protocol: Protocol, sheet: &'a [u8], row: &'a mut [Entry]) -> u8
+    ensures { λ r. ⌜ (r ≡ refusalOf protocol (now (sheet .entry)) (length (now (row .entry)))) × (now (row .exit) ≡ rowAfter protocol (now (sheet .entry)) (now (row .entry))) ⌝ }
 {
-    let o = outcomes_of(sheet, row.len());
+    let o = outcomes_of(protocol, sheet, row.len());
     row::fill(row, o);
     o.refusal
 }

@@ -1,7 +1,8 @@
 // The second half of a round: every sound column listens to what the mail and the lines of the unsound columns have for it.
 use crate::space;
-use column::Column;
+use agreement::Column;
 use delivery::Round;
+use sizes::Protocol;
 ghost use mathlib.Core.Path.{_≡_};
 ghost use Prim.Native.Nat.{_+_, _*_, _≤_, _<_};
 ghost use lib.ListN.{length};
@@ -10,6 +11,7 @@ ghost use Rattle.wall_run.specs.Run.{each, heard};
 
 // Column i + 1 listens, if it is sound.
 fn hear(
+    protocol: Protocol,
     sheet: &[u8],
     round: Round,
     mail: &[u16],
@@ -18,25 +20,26 @@ fn hear(
     inbox: &mut [u16],
 ) -> Column
     requires { ⌜ (i < 255) × (length (now inbox) ≡ columns (now sheet) * (round .width)) ⌝ }
-    ensures { λ r. ⌜ r ≡ heard (now (sheet .entry)) round (now (mail .entry)) (i + 1) column ⌝ }
+    ensures { λ r. ⌜ r ≡ heard protocol (now (sheet .entry)) round (now (mail .entry)) (i + 1) column ⌝ }
 {
     if !sheet::sound(sheet, i + 1) {
         return column;
     }
     delivery::deliver(sheet, round, mail, i, inbox);
-    let answered = column::listen(column, inbox);
+    let answered = calls::listen(protocol, column, inbox);
     answered.column
 }
 
 // All columns listen.
 pub(super) fn listen_all(
+    protocol: Protocol,
     sheet: &[u8],
     round: Round,
     mail: &[u16],
     wall: [Column; 31],
 ) -> [Column; 31]
     requires { ⌜ (columns (now sheet) ≤ 31) × (columns (now sheet) * (round .width) ≤ 2048) ⌝ }
-    ensures { λ r. ⌜ r ≡ each (columns (now (sheet .entry))) (heard (now (sheet .entry)) round (now (mail .entry))) wall ⌝ }
+    ensures { λ r. ⌜ r ≡ each (columns (now (sheet .entry))) (heard protocol (now (sheet .entry)) round (now (mail .entry))) wall ⌝ }
 {
     let n = sheet::columns(sheet);
     let len = space::of_one(sheet, round.width);
@@ -46,7 +49,15 @@ pub(super) fn listen_all(
     for i in 0..n {
         let at = i as usize;
         let column = wall[at];
-        next[at] = hear(sheet, round, mail, i, column, &mut inbox[..len]);
+        next[at] = hear(
+            protocol,
+            sheet,
+            round,
+            mail,
+            i,
+            column,
+            &mut inbox[..len],
+        );
     }
     next
 }

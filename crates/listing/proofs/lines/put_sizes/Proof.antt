@@ -47,8 +47,8 @@ put-named-requires-5 c κs = search needs
 slice-aggregate-put-named-6 : tie.Need-slice-aggregate-put-named-6
 slice-aggregate-put-named-6 c = search needs
 
-rounds-requires : tie.Need-rounds-requires
-rounds-requires c κs = search needs
+rounds-in-requires : tie.Need-rounds-in-requires
+rounds-in-requires c κs = search needs
 
 put-named-requires-6 : tie.Need-put-named-requires-6
 put-named-requires-6 c κs = search needs
@@ -73,7 +73,7 @@ returns c =
     let four = puts-more three (d .put-named4 .ensures) in
     let five = puts-more four (b .put-named5 .ensures) in
     let six = puts-more five (r .put-named6 .ensures) in
-    rw (← t .before .faults .ensures, ← d .before .degree .ensures, ← b .before .blocks2 .ensures, ← r .before .rounds .ensures)
+    rw (← t .before .faults .ensures, ← d .before .degree .ensures, ← b .before .blocks2 .ensures, ← r .before .rounds-in .ensures)
     (puts-more six (c .before .before .put .ensures))
 
 same-length : tie.Need-same-length
@@ -97,7 +97,7 @@ put-sizes-spec =
     blocks-requires
     put-named-requires-5
     slice-aggregate-put-named-6
-    rounds-requires
+    rounds-in-requires
     put-named-requires-6
     slice-aggregate-put
     put-requires

@@ -3,7 +3,7 @@ use mathlib.Core.Path.{_≡_, refl, sym, ap, subst, _∙_}
 use mathlib.Core.Bool.{Bool, true, false, cond}
 use mathlib.Core.List.{List, []}
 use mathlib.Core.Option.{Option, none, some}
-use Prim.Native.Nat.{ℕ, suc, _≤_, _<_}
+use Prim.Native.Nat.{ℕ, zero, suc, _≤_, _<_}
 use native.Mathlib.Omega.{arith}
 use borrow.Author.Tests.{eqb-true, eq-eqb, eqb-false, ne-eqb}
 use lib.Dec.{T, eqb}
@@ -83,6 +83,12 @@ graded-as g o = go (ifRecord o) (one-at-most o) (eqb g 2) refl
     go : (x : ℕ) → x ≤ 1 → (b : Bool) → eqb g 2 ≡ b → Graded-as g x (cond b 2 x)
     go x l true e = record { small = omega arith; above = omega arith; two-is = λ h. eqb-true g 2 e; two-out = λ h. refl; else-is = λ no. absurd (no (eqb-true g 2 e)) }
     go x l false e = record { small = omega arith; above = omega arith; two-is = λ h. absurd (omega arith); two-out = λ h. absurd (eqb-false g 2 e h); else-is = λ no. refl }
+
+-- the vote is 1 from first to last
+pub vote-lasts : (s n m own : ℕ) (bytes : List ℕ) (inbox : ℕ → List ℕ) (q : ℕ) → course (Posting s) n m own bytes inbox q .vote ≡ 1
+unfolding course freshIn recast voteAfter withVote
+vote-lasts s n m own bytes inbox zero = refl
+vote-lasts s n m own bytes inbox (suc q) = vote-lasts s n m own bytes inbox q
 
 -- THE COURSES OF A POSTING
 

@@ -1,1 +1,65 @@
-// none
+// A posting wall: one column posts its record of the sheet, and the others take it (Protocol 3.11). It is a wall run with the poster's
+// number beside the sheet.
+use sizes::Protocol;
+use wall_run::Outcomes;
+ghost use mathlib.Core.Path.{_≡_};
+ghost use Prim.Native.Nat.{_≤_};
+ghost use lib.ListN.{length};
+ghost use Rattle.sizes.specs.declared.Protocol.the-variants.{Posting};
+ghost use Rattle.wall_run.specs.Run.{refusal as refusalOf, outcomes};
+ghost use Rattle.posting_run.specs.Number.{withDigit, readTo, number};
+
+// The refusal of a sheet with a poster's number beside it, for a row of `rows` entries: 1, 2, 3, 4, 5, 6 as document 01 numbers and orders
+// them, or 0 for none.
+pub fn refusal(poster: u8, sheet: &[u8], rows: usize) -> u8
+    ensures { λ r. ⌜ r ≡ refusalOf (Posting poster) (now (sheet .entry)) rows ⌝ }
+{
+    wall_run::refusal(Protocol::Posting(poster), sheet, rows)
+}
+
+// Runs the posting wall that a sheet describes, for a row of `rows` entries, and answers in numbers.
+pub fn outcomes_of(poster: u8, sheet: &[u8], rows: usize) -> Outcomes
+    ensures { λ r. ⌜ r ≡ outcomes (Posting poster) (now (sheet .entry)) rows ⌝ }
+{
+    wall_run::outcomes_of(Protocol::Posting(poster), sheet, rows)
+}
+
+// A number with one digit more; 256 where the letter is no digit or the number no byte.
+fn with_digit(v: u16, letter: u8) -> u16
+    requires { ⌜ v ≤ 256 ⌝ }
+    ensures { λ r. ⌜ (r ≡ withDigit v letter) × (r ≤ 256) ⌝ }
+{
+    if letter < 48 {
+        return 256;
+    }
+    if 57 < letter {
+        return 256;
+    }
+    let next = 10 * v + (letter - 48) as u16;
+    if next < 256 {
+        return next;
+    }
+    256
+}
+
+// What a text says, read from left to right.
+fn read(text: &[u8]) -> u16
+    ensures { λ r. ⌜ r ≡ readTo (now (text .entry)) (length (now (text .entry))) ⌝ }
+{
+    let mut v = 0u16;
+    for k in 0..text.len() {
+        v = with_digit(v, text[k]);
+    }
+    v
+}
+
+// The poster's number as a program is told it: a decimal number up to 255; 0, which is no column, for every other text.
+pub fn poster_of(text: &[u8]) -> u8
+    ensures { λ r. ⌜ r ≡ number (now (text .entry)) ⌝ }
+{
+    let v = read(text);
+    if v < 256 {
+        return v as u8;
+    }
+    0
+}

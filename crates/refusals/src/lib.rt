@@ -1,16 +1,32 @@
-// The refusals of a column's calls, as document 01 numbers and orders them; 0 for none. Those of the state stand before that of a slice.
+// The refusals of a column's calls, in an agreement and in a posting, as document 01 numbers and orders them; 0 for none. Those of the state
+// stand before that of a slice.
 mod ranges;
 
 use agreement::Column;
 use agreement::Stage;
+use sizes::Protocol;
 ghost use mathlib.Core.Path.{_≡_};
-ghost use Rattle.agreement.specs.Calls.{freshRefusal, roundOf, whenSpeaking, whenListening, whenAsked, inState, inRound, speakRefusal, listenRefusal, outcomeRefusal};
+ghost use Rattle.agreement.specs.Calls.{orElse, freshRefusal, roundOf, whenSpeaking, whenListening, whenAsked, inState, inRound, speakRefusal, listenRefusal, outcomeRefusal};
 
-// Of a call to make a column: 1, 2, 3 for the sizes and the own number, 4 for a record that has not m bytes.
-pub fn to_make(n: u8, m: u8, own: u8, len: usize) -> u8
-    ensures { λ r. ⌜ r ≡ freshRefusal n m own len ⌝ }
+// The refusal `why`, or where there is none the next.
+fn or_else(why: u8, next: u8) -> u8
+    ensures { λ r. ⌜ r ≡ orElse why next ⌝ }
 {
-    messages::refusal(sizes::refusal(n, m, own), 1, m as u16, len)
+    if why == 0 {
+        return next;
+    }
+    why
+}
+
+// Of a call to make a column: 1, 2, 3 for the sizes, the own and the poster's number, 4 for a record that has not m bytes.
+pub fn to_make(protocol: Protocol, n: u8, m: u8, own: u8, len: usize) -> u8
+    ensures { λ r. ⌜ r ≡ freshRefusal protocol n m own len ⌝ }
+{
+    let names = or_else(
+        sizes::refusal(n, m, own),
+        sizes::refusal(n, m, sizes::beside(protocol)),
+    );
+    messages::refusal(names, 1, m as u16, len)
 }
 
 // The round of a stage; 0 after the end.
@@ -58,44 +74,44 @@ fn when_asked(stage: Stage) -> u8
 }
 
 // 11 for a state out of its ranges, before the refusal that the stage gives.
-fn in_state(column: Column, why: u8) -> u8
-    ensures { λ r. ⌜ r ≡ inState column why ⌝ }
+fn in_state(protocol: Protocol, column: Column, why: u8) -> u8
+    ensures { λ r. ⌜ r ≡ inState protocol column why ⌝ }
 {
-    if ranges::fits(column) {
+    if ranges::fits(protocol, column) {
         return why;
     }
     11
 }
 
 // And 4 after both, for a slice that is not as long as the round's messages.
-fn in_round(column: Column, why: u8, len: usize) -> u8
-    ensures { λ r. ⌜ r ≡ inRound column why len ⌝ }
+fn in_round(protocol: Protocol, column: Column, why: u8, len: usize) -> u8
+    ensures { λ r. ⌜ r ≡ inRound protocol column why len ⌝ }
 {
     let stage = column.stage;
-    let w = sizes::values(column.n, column.m, round_of(stage));
-    messages::refusal(in_state(column, why), column.n, w as u16, len)
+    let w = sizes::values_in(protocol, column.n, column.m, round_of(stage));
+    messages::refusal(in_state(protocol, column, why), column.n, w as u16, len)
 }
 
 // Of a call to speak with a slice of `len` values: 11, 10, 7, then 4.
-pub fn to_speak(column: Column, len: usize) -> u8
-    ensures { λ r. ⌜ r ≡ speakRefusal column len ⌝ }
+pub fn to_speak(protocol: Protocol, column: Column, len: usize) -> u8
+    ensures { λ r. ⌜ r ≡ speakRefusal protocol column len ⌝ }
 {
     let stage = column.stage;
-    in_round(column, when_speaking(stage), len)
+    in_round(protocol, column, when_speaking(stage), len)
 }
 
 // Of a call to listen with a slice of `len` values: 11, 10, 8, then 4.
-pub fn to_listen(column: Column, len: usize) -> u8
-    ensures { λ r. ⌜ r ≡ listenRefusal column len ⌝ }
+pub fn to_listen(protocol: Protocol, column: Column, len: usize) -> u8
+    ensures { λ r. ⌜ r ≡ listenRefusal protocol column len ⌝ }
 {
     let stage = column.stage;
-    in_round(column, when_listening(stage), len)
+    in_round(protocol, column, when_listening(stage), len)
 }
 
 // Of a call for the outcome: 11, then 9.
-pub fn to_ask(column: Column) -> u8
-    ensures { λ r. ⌜ r ≡ outcomeRefusal column ⌝ }
+pub fn to_ask(protocol: Protocol, column: Column) -> u8
+    ensures { λ r. ⌜ r ≡ outcomeRefusal protocol column ⌝ }
 {
     let stage = column.stage;
-    in_state(column, when_asked(stage))
+    in_state(protocol, column, when_asked(stage))
 }

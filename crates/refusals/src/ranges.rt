@@ -2,41 +2,52 @@
 use agreement::Column;
 use agreement::Stage;
 use field::Field;
+use sizes::Protocol;
 ghost use mathlib.Core.Path.{_≡_};
 ghost use mathlib.Core.Bool.{not, _&&_, _||_};
 ghost use lib.Dec.{eqb, ltb};
 ghost use Rattle.lists.specs.Lists.{all};
 ghost use Rattle.field.specs.Field.{blank};
-ghost use Rattle.sizes.specs.Sizes.{rounds, outside};
+ghost use Rattle.sizes.specs.Sizes.{outside};
 ghost use Rattle.messages.specs.Messages.{readPoint};
-ghost use Rattle.agreement.specs.Column.{stageFits, byteFits, flagFits, pointFits, numbersFit, arraysFit, fits as fitsOf};
+ghost use Rattle.agreement.specs.Column.{stageFits, byteFits, flagFits, pointFits, namesFit, numbersFit, arraysFit, fits as fitsOf};
 
-// Whether a run of n columns has the round.
-fn round_fits(n: u8, round: u8) -> bool
-    ensures { λ r. ⌜ r ≡ not (outside 1 (rounds n) round) ⌝ }
+// Whether a run of `last` rounds has the round.
+fn round_fits(last: usize, round: u8) -> bool
+    ensures { λ r. ⌜ r ≡ not (outside 1 last round) ⌝ }
 {
-    !sizes::outside(1, sizes::rounds(n), round as usize)
+    !sizes::outside(1, last, round as usize)
 }
 
-fn stage_fits(n: u8, stage: Stage) -> bool
-    ensures { λ r. ⌜ r ≡ stageFits n stage ⌝ }
+fn stage_fits(last: usize, stage: Stage) -> bool
+    ensures { λ r. ⌜ r ≡ stageFits last stage ⌝ }
 {
     match stage {
-        Stage::Speak(round) => round_fits(n, round),
-        Stage::Listen(round) => round_fits(n, round),
+        Stage::Speak(round) => round_fits(last, round),
+        Stage::Listen(round) => round_fits(last, round),
         Stage::Ended(_) => true,
     }
 }
 
-// The numbers of a state.
-fn numbers_fit(column: Column) -> bool
-    ensures { λ r. ⌜ r ≡ numbersFit column ⌝ }
+// The own and the poster's number, each with the sizes.
+fn names_fit(protocol: Protocol, column: Column) -> bool
+    ensures { λ r. ⌜ r ≡ namesFit protocol column ⌝ }
 {
     if sizes::refusal(column.n, column.m, column.own) != 0 {
         return false;
     }
+    sizes::refusal(column.n, column.m, sizes::beside(protocol)) == 0
+}
+
+// The numbers of a state.
+fn numbers_fit(protocol: Protocol, column: Column) -> bool
+    ensures { λ r. ⌜ r ≡ numbersFit protocol column ⌝ }
+{
+    if !names_fit(protocol, column) {
+        return false;
+    }
     let stage = column.stage;
-    if !stage_fits(column.n, stage) {
+    if !stage_fits(sizes::rounds_in(protocol, column.n), stage) {
         return false;
     }
     if 3 <= column.grade {
@@ -135,10 +146,10 @@ fn arrays_fit(column: Column) -> bool
 }
 
 // Whether every part of the state is in its range.
-pub(super) fn fits(column: Column) -> bool
-    ensures { λ r. ⌜ r ≡ fitsOf column ⌝ }
+pub(super) fn fits(protocol: Protocol, column: Column) -> bool
+    ensures { λ r. ⌜ r ≡ fitsOf protocol column ⌝ }
 {
-    if !numbers_fit(column) {
+    if !numbers_fit(protocol, column) {
         return false;
     }
     arrays_fit(column)

@@ -2,7 +2,7 @@
 use mathlib.Core.Path.{refl}
 use native.Mathlib.Omega.{arith}
 use borrow.Author.Needs.{needs}
-use Rattle.sizes.specs.Laws.{values-le}
+use Rattle.sizes.specs.Laws.{values-in-le}
 use Rattle.agreement.specs.Calls.{inRound}
 use Rattle.refusals.proofs.in_round.Statement.{statement}
 use Rattle.refusals.proofs.in_round.Tie as tie
@@ -10,28 +10,28 @@ use Rattle.refusals.proofs.in_round.Tie as tie
 round-of-requires : tie.Need-round-of-requires
 round-of-requires c κs = search needs
 
-values-requires : tie.Need-values-requires
-values-requires c κs = search needs
+values-in-requires : tie.Need-values-in-requires
+values-in-requires c κs = search needs
 
 in-state-requires : tie.Need-in-state-requires
 in-state-requires c κs = search needs
 
 cast-refusal : tie.Need-cast-refusal
-cast-refusal c = let a = c .before .before .before .args in omega (arith, c .before .values .ensures, values-le (a .column .n) (a .column .m) (c .before .before .round-of .result))
+cast-refusal c = let a = c .before .before .before .args in omega (arith, c .before .values-in .ensures, values-in-le (a .protocol) (a .column .n) (a .column .m) (c .before .before .round-of .result))
 
 refusal-requires : tie.Need-refusal-requires
 refusal-requires c κs = search needs
 
 returns : tie.Need-returns
 unfolding inRound
-returns c = rw (c .refusal .ensures, c .before .in-state .ensures, c .before .before .values .ensures, c .before .before .before .round-of .ensures) refl
+returns c = rw (c .refusal .ensures, c .before .in-state .ensures, c .before .before .values-in .ensures, c .before .before .before .round-of .ensures) refl
 
 pub in-round-spec : {M : Type 1} → statement M
 in-round-spec =
     tie.close
     (tie.spec
     round-of-requires
-    values-requires
+    values-in-requires
     in-state-requires
     cast-refusal
     refusal-requires

@@ -1,0 +1,56 @@
+-- `listen` meets its contract.
+use mathlib.Core.Path.{refl, sym, _∙_}
+use borrow.Author.Needs.{needs}
+use Rattle.agreement.specs.Rounds.{listens}
+use Rattle.agreement.specs.Calls.{listen}
+use Rattle.calls.specs.Answers.{refused-alike, may-listen}
+use Rattle.calls.proofs.listen.Statement.{statement}
+use Rattle.calls.proofs.listen.Tie as tie
+
+to-listen-requires : tie.Need-to-listen-requires
+to-listen-requires c κs = search needs
+
+answered-requires : tie.Need-answered-requires
+answered-requires c κs = search needs
+
+returns : tie.Need-returns
+unfolding listen
+returns c = rw (c .answered .ensures, c .before .before .to-listen .ensures) (refused-alike _ _ _ _ (λ z. c .before .if1 .taken (c .before .before .to-listen .ensures ∙ z)))
+
+round-of-requires : tie.Need-round-of-requires
+round-of-requires c κs = search needs
+
+voting-requires : tie.Need-voting-requires
+voting-requires c κs = search needs
+
+kind-in-requires : tie.Need-kind-in-requires
+kind-in-requires c κs = search needs
+
+hear-requires : tie.Need-hear-requires
+hear-requires c κs = let t = may-listen _ _ _ (sym (c .before .before .before .before .to-listen .ensures) ∙ c .before .before .before .if1 .left) in
+    (rw (c .kind-in .ensures, c .before .voting .ensures, c .before .before .round-of .ensures) (t .ready), rw (c .before .before .round-of .ensures) (t .few))
+
+recast-requires : tie.Need-recast-requires
+recast-requires c κs = search needs
+
+answered-requires-2 : tie.Need-answered-requires-2
+answered-requires-2 c κs = search needs
+
+returns-2 : tie.Need-returns-2
+unfolding listen listens
+returns-2 c = rw (c .answered2 .ensures, c .before .recast .ensures, c .before .before .hear .ensures, c .before .before .before .kind-in .ensures, c .before .before .before .before .voting .ensures, c .before .before .before .before .before .round-of .ensures, c .before .before .before .before .before .before .before .to-listen .ensures) refl
+
+pub listen-spec : {M : Type 1} → statement M
+listen-spec =
+    tie.close
+    (tie.spec
+    to-listen-requires
+    answered-requires
+    returns
+    round-of-requires
+    voting-requires
+    kind-in-requires
+    hear-requires
+    recast-requires
+    answered-requires-2
+    returns-2)

@@ -1,0 +1,26 @@
+-- `reports::hear_first` meets its contract.
+use mathlib.Core.Path.{refl}
+use borrow.Author.Needs.{needs}
+use Rattle.agreement.specs.Parts.{withReports}
+use Rattle.agreement.specs.Rounds.{hears, received}
+use Rattle.calls.specs.Ready.{hasOne}
+use Rattle.calls.proofs.reports.hear_first.Statement.{statement}
+use Rattle.calls.proofs.reports.hear_first.Tie as tie
+
+received-requires : tie.Need-received-requires
+unfolding hasOne
+received-requires c κs = refl
+
+received-requires-2 : tie.Need-received-requires-2
+received-requires-2 c κs = search needs
+
+goes-on-requires : tie.Need-goes-on-requires
+goes-on-requires c κs = search needs
+
+returns : tie.Need-returns
+unfolding hears received withReports
+returns c = rw (c .goes-on .ensures, c .before .before .before .before .received2 .ensures, c .before .before .before .before .before .received .ensures) refl
+
+pub hear-first-spec : {M : Type 1} → statement M
+hear-first-spec =
+    tie.close (tie.spec received-requires received-requires-2 goes-on-requires returns)

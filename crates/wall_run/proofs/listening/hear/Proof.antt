@@ -37,7 +37,7 @@ unfolding heard
 returns-2 c =
     let a = c .before .before .before .before .before .before .before .before .before .before .before .before .args in
     let got = c .before .before .before .before .before .deliver .ensures .1 ∙ if-done _ _ _ (not-refused 0 (columns (a .sheet .now)) (a .round .width) (length (a .inbox .now)) refl (c .before .before .before .before .before .before .before .before .before .before .before .before .pre .1)) in
-    rw (sym (c .before .before .before .before .before .before .before .before .sound .ensures) ∙ not-false _ (c .before .before .before .before .before .before .before .if1 .left)) (ap (λ (r : Answered). r .column) (c .before .listen .ensures) ∙ ap (λ (l : List ℕ). listen (a .column) l .column) got)
+    rw (sym (c .before .before .before .before .before .before .before .before .sound .ensures) ∙ not-false _ (c .before .before .before .before .before .before .before .if1 .left)) (ap (λ (r : Answered). r .column) (c .before .listen .ensures) ∙ ap (λ (l : List ℕ). listen (a .protocol) (a .column) l .column) got)
 
 pub hear-spec : {M : Type 1} → statement M
 hear-spec =

@@ -4,18 +4,18 @@ use Prim.Native.Nat.{ℕ, _+_, _-_, _*_, _≤_}
 use native.Mathlib.Omega.{arith}
 use lib.ListN.{length-replicate}
 use lib.Seq.{length-take-le, length-front}
-use Rattle.sizes.specs.Sizes.{rounds, values, line}
-use Rattle.sizes.specs.Laws.{faults-le, rounds-are, line-le}
+use Rattle.sizes.specs.Sizes.{roundsIn, valuesIn, lineIn}
+use Rattle.sizes.specs.Laws.{rounds-in-le, line-in-le}
 use Rattle.sheet.specs.Sheet.{columns}
 use Rattle.wall_run.specs.Rounds.{width-le, mail-le, Going, going-none, going-more, going-few, going-done}
 use Rattle.wall_run.proofs.rounds.ended.Statement.{statement}
 use Rattle.wall_run.proofs.rounds.ended.Tie as tie
 
 abbrev Inv-loop : tie.InvT-loop
-Inv-loop sheet n m last line mail₀ wall₀ offset₀ q₀ mail wall offset q = Going sheet last mail wall offset q
+Inv-loop protocol sheet n m last line mail₀ wall₀ offset₀ q₀ mail wall offset q = Going protocol sheet last mail wall offset q
 
 abbrev μ-loop : tie.MeasureT-loop
-μ-loop sheet n m last line mail₀ wall₀ offset₀ q₀ mail wall offset q = last - q
+μ-loop protocol sheet n m last line mail₀ wall₀ offset₀ q₀ mail wall offset q = last - q
 
 columns-requires : tie.Need-columns-requires Inv-loop μ-loop
 columns-requires c κs = tt
@@ -23,73 +23,73 @@ columns-requires c κs = tt
 bytes-requires : tie.Need-bytes-requires Inv-loop μ-loop
 bytes-requires c κs = tt
 
-rounds-requires : tie.Need-rounds-requires Inv-loop μ-loop
-rounds-requires c κs = tt
+rounds-in-requires : tie.Need-rounds-in-requires Inv-loop μ-loop
+rounds-in-requires c κs = tt
 
 cast-last : tie.Need-cast-last Inv-loop μ-loop
-cast-last c = omega (arith, c .rounds .ensures, rounds-are (c .before .before .columns .result), faults-le (c .before .before .columns .result), c .before .before .columns .ensures, c .before .before .before .before .pre .range .columns-high)
+cast-last c = omega (arith, c .rounds-in .ensures, rounds-in-le (c .before .before .before .before .args .protocol) (c .before .before .columns .result), c .before .before .columns .ensures, c .before .before .before .before .pre .range .columns-high)
 
-line-requires : tie.Need-line-requires Inv-loop μ-loop
-line-requires c κs = tt
+line-in-requires : tie.Need-line-in-requires Inv-loop μ-loop
+line-in-requires c κs = tt
 
 cast-line : tie.Need-cast-line Inv-loop μ-loop
-cast-line c = omega (arith, c .line .ensures, line-le (c .before .before .before .columns .result) (c .before .before .bytes .result))
+cast-line c = omega (arith, c .line-in .ensures, line-in-le (c .before .before .before .before .before .args .protocol) (c .before .before .before .columns .result) (c .before .before .bytes .result))
 
 start-requires : tie.Need-start-requires Inv-loop μ-loop
 start-requires c κs = c .before .before .before .before .before .pre
 
 loop-holds : tie.Need-loop-holds Inv-loop μ-loop
-loop-holds c = going-none _ _ _ _ (omega (arith, c .before .before .rounds .ensures, rounds-are (c .before .before .before .before .columns .result), faults-le (c .before .before .before .before .columns .result), c .before .before .before .before .columns .ensures, c .before .before .before .before .before .before .pre .range .columns-high)) (c .start .ensures) (length-replicate {A = ℕ} 65536 65535)
+loop-holds c = going-none _ _ _ _ _ (omega (arith, c .before .before .rounds-in .ensures, rounds-in-le (c .before .before .before .before .before .before .args .protocol) (c .before .before .before .before .columns .result), c .before .before .before .before .columns .ensures, c .before .before .before .before .before .before .pre .range .columns-high)) (c .start .ensures) (length-replicate {A = ℕ} 65536 65535)
 
-add-values : tie.Need-add-values Inv-loop μ-loop
-add-values c = omega (arith, c .before .loop .inv .few)
+add-values-in : tie.Need-add-values-in Inv-loop μ-loop
+add-values-in c = omega (arith, c .before .loop .inv .few)
 
-values-requires : tie.Need-values-requires Inv-loop μ-loop
-values-requires c κs = tt
+values-in-requires : tie.Need-values-in-requires Inv-loop μ-loop
+values-in-requires c κs = tt
 
 cast-width : tie.Need-cast-width Inv-loop μ-loop
 cast-width c =
     let pre = c .before .before .before .before .before .before .before .before .before .pre in
-    let wide : c .values .result ≤ 65 = rw (c .values .ensures) (width-le _ _ _ (omega (arith, c .before .before .before .before .before .before .bytes .ensures, pre .range .bytes-high))) in
+    let wide : c .values-in .result ≤ 65 = rw (c .values-in .ensures) (width-le _ _ _ _ (omega (arith, c .before .before .before .before .before .before .bytes .ensures, pre .range .bytes-high))) in
     omega arith
 
 of-many-requires : tie.Need-of-many-requires Inv-loop μ-loop
 of-many-requires c κs =
     let pre = c .before .before .before .before .before .before .before .before .before .pre in
-    let wide : c .values .result ≤ 65 = rw (c .values .ensures) (width-le _ _ _ (omega (arith, c .before .before .before .before .before .before .bytes .ensures, pre .range .bytes-high))) in
+    let wide : c .values-in .result ≤ 65 = rw (c .values-in .ensures) (width-le _ _ _ _ (omega (arith, c .before .before .before .before .before .before .bytes .ensures, pre .range .bytes-high))) in
     (pre .range .columns-high, wide)
 
 array-borrow-prefix-mail : tie.Need-array-borrow-prefix-mail Inv-loop μ-loop
 array-borrow-prefix-mail c =
     let pre = c .before .before .before .before .before .before .before .before .before .before .pre in
-    let wide : c .before .values .result ≤ 65 = rw (c .before .values .ensures) (width-le _ _ _ (omega (arith, c .before .before .before .before .before .before .before .bytes .ensures, pre .range .bytes-high))) in
+    let wide : c .before .values-in .result ≤ 65 = rw (c .before .values-in .ensures) (width-le _ _ _ _ (omega (arith, c .before .before .before .before .before .before .before .bytes .ensures, pre .range .bytes-high))) in
     let n = columns (c .before .before .before .before .before .before .before .before .before .before .args .sheet .now) in
-    let len : c .of-many .result ≡ n * (n * c .before .values .result) = c .of-many .ensures ∙ ap (λ (j : ℕ). j * (n * c .before .values .result)) (c .before .before .before .before .before .before .before .before .columns .ensures) in
-    let room = mail-le n (c .before .values .result) (pre .range .columns-high) wide in
+    let len : c .of-many .result ≡ n * (n * c .before .values-in .result) = c .of-many .ensures ∙ ap (λ (j : ℕ). j * (n * c .before .values-in .result)) (c .before .before .before .before .before .before .before .before .columns .ensures) in
+    let room = mail-le n (c .before .values-in .result) (pre .range .columns-high) wide in
     omega (arith, c .before .before .before .loop .inv .room)
 
 slice-aggregate-played : tie.Need-slice-aggregate-played Inv-loop μ-loop
 slice-aggregate-played c =
     let pre = c .before .before .before .before .before .before .before .before .before .before .before .pre in
-    let wide : c .before .before .values .result ≤ 65 = rw (c .before .before .values .ensures) (width-le _ _ _ (omega (arith, c .before .before .before .before .before .before .before .before .bytes .ensures, pre .range .bytes-high))) in
+    let wide : c .before .before .values-in .result ≤ 65 = rw (c .before .before .values-in .ensures) (width-le _ _ _ _ (omega (arith, c .before .before .before .before .before .before .before .before .bytes .ensures, pre .range .bytes-high))) in
     let n = columns (c .before .before .before .before .before .before .before .before .before .before .before .args .sheet .now) in
-    let len : c .before .of-many .result ≡ n * (n * c .before .before .values .result) = c .before .of-many .ensures ∙ ap (λ (j : ℕ). j * (n * c .before .before .values .result)) (c .before .before .before .before .before .before .before .before .before .columns .ensures) in
-    let room = mail-le n (c .before .before .values .result) (pre .range .columns-high) wide in
+    let len : c .before .of-many .result ≡ n * (n * c .before .before .values-in .result) = c .before .of-many .ensures ∙ ap (λ (j : ℕ). j * (n * c .before .before .values-in .result)) (c .before .before .before .before .before .before .before .before .before .columns .ensures) in
+    let room = mail-le n (c .before .before .values-in .result) (pre .range .columns-high) wide in
     sym (length-take-le _ _ (omega (arith, c .before .before .before .before .loop .inv .room)))
 
 played-requires : tie.Need-played-requires Inv-loop μ-loop
 played-requires c κs =
     let pre = c .before .before .before .before .before .before .before .before .before .before .before .pre in
-    let wide : c .before .before .values .result ≤ 65 = rw (c .before .before .values .ensures) (width-le _ _ _ (omega (arith, c .before .before .before .before .before .before .before .before .bytes .ensures, pre .range .bytes-high))) in
+    let wide : c .before .before .values-in .result ≤ 65 = rw (c .before .before .values-in .ensures) (width-le _ _ _ _ (omega (arith, c .before .before .before .before .before .before .before .before .bytes .ensures, pre .range .bytes-high))) in
     let n = columns (c .before .before .before .before .before .before .before .before .before .before .before .args .sheet .now) in
-    let len : c .before .of-many .result ≡ n * (n * c .before .before .values .result) = c .before .of-many .ensures ∙ ap (λ (j : ℕ). j * (n * c .before .before .values .result)) (c .before .before .before .before .before .before .before .before .before .columns .ensures) in
-    let room = mail-le n (c .before .before .values .result) (pre .range .columns-high) wide in
+    let len : c .before .of-many .result ≡ n * (n * c .before .before .values-in .result) = c .before .of-many .ensures ∙ ap (λ (j : ℕ). j * (n * c .before .before .values-in .result)) (c .before .before .before .before .before .before .before .before .before .columns .ensures) in
+    let room = mail-le n (c .before .before .values-in .result) (pre .range .columns-high) wide in
     (pre .range .columns-high, wide, length-take-le _ _ (omega (arith, c .before .before .before .before .loop .inv .room)) ∙ len)
 
 add-offset : tie.Need-add-offset Inv-loop μ-loop
 add-offset c =
     let pre = c .before .before .before .before .before .before .before .before .before .before .before .before .before .pre in
-    let wide : c .before .before .before .before .values .result ≤ 65 = rw (c .before .before .before .before .values .ensures) (width-le _ _ _ (omega (arith, c .before .before .before .before .before .before .before .before .before .before .bytes .ensures, pre .range .bytes-high))) in
+    let wide : c .before .before .before .before .values-in .result ≤ 65 = rw (c .before .before .before .before .values-in .ensures) (width-le _ _ _ _ (omega (arith, c .before .before .before .before .before .before .before .before .before .before .bytes .ensures, pre .range .bytes-high))) in
     omega (arith, going-few (c .before .before .before .before .before .before .loop .inv) (pre .range .bytes-high))
 
 add-q : tie.Need-add-q Inv-loop μ-loop
@@ -99,10 +99,10 @@ loop-less : tie.Need-loop-less Inv-loop μ-loop
 loop-less c = omega arith
 
 loop-again : tie.Need-loop-again Inv-loop μ-loop
-loop-again c = going-more (c .before .before .before .before .before .before .before .before .line .result) (c .before .before .before .before .values .result) (c .before .before .before .before .before .before .loop .inv) (omega arith) (length-front (c .before .before .before .before .before .before .loop .mail) (c .before .played .last .1 .1 .1 .0) (c .before .before .before .of-many .result) (c .before .played .kept .1 .1 .1 .0)) (c .before .before .before .before .before .before .before .before .line .ensures ∙ ap₂ {C = ℕ} (λ n m. line n m) (c .before .before .before .before .before .before .before .before .before .before .before .columns .ensures) (c .before .before .before .before .before .before .before .before .before .before .bytes .ensures)) (c .before .before .before .before .values .ensures ∙ ap₂ {C = ℕ} (λ n m. values n m (c .before .before .before .before .before .before .loop .q + 1)) (c .before .before .before .before .before .before .before .before .before .before .before .columns .ensures) (c .before .before .before .before .before .before .before .before .before .before .bytes .ensures)) (c .before .played .ensures)
+loop-again c = going-more (c .before .before .before .before .before .before .before .before .line-in .result) (c .before .before .before .before .values-in .result) (c .before .before .before .before .before .before .loop .inv) (omega arith) (length-front (c .before .before .before .before .before .before .loop .mail) (c .before .played .last .1 .1 .1 .1 .0) (c .before .before .before .of-many .result) (c .before .played .kept .1 .1 .1 .1 .0)) (c .before .before .before .before .before .before .before .before .line-in .ensures ∙ ap₂ {C = ℕ} (λ n m. lineIn (c .before .before .before .before .before .before .before .before .before .before .before .before .before .args .protocol) n m) (c .before .before .before .before .before .before .before .before .before .before .before .columns .ensures) (c .before .before .before .before .before .before .before .before .before .before .bytes .ensures)) (c .before .before .before .before .values-in .ensures ∙ ap₂ {C = ℕ} (λ n m. valuesIn (c .before .before .before .before .before .before .before .before .before .before .before .before .before .args .protocol) n m (c .before .before .before .before .before .before .loop .q + 1)) (c .before .before .before .before .before .before .before .before .before .before .before .columns .ensures) (c .before .before .before .before .before .before .before .before .before .before .bytes .ensures)) (c .before .played .ensures)
 
 returns : tie.Need-returns Inv-loop μ-loop
-returns c = going-done (c .before .loop .inv) (omega arith) (c .before .before .before .before .rounds .ensures ∙ ap rounds (c .before .before .before .before .before .before .columns .ensures))
+returns c = going-done (c .before .loop .inv) (omega arith) (c .before .before .before .before .rounds-in .ensures ∙ ap (roundsIn (c .before .before .before .before .before .before .before .before .args .protocol)) (c .before .before .before .before .before .before .columns .ensures))
 
 pub ended-spec : {M : Type 1} → statement M
 ended-spec =
@@ -112,14 +112,14 @@ ended-spec =
     μ-loop
     columns-requires
     bytes-requires
-    rounds-requires
+    rounds-in-requires
     cast-last
-    line-requires
+    line-in-requires
     cast-line
     start-requires
     loop-holds
-    add-values
-    values-requires
+    add-values-in
+    values-in-requires
     cast-width
     of-many-requires
     array-borrow-prefix-mail

@@ -52,7 +52,7 @@ returns c =
     let n = columns (a .sheet .now) in
     let m = bytes (a .sheet .now) in
     let at = recordPlace n m (a .i + 1) in
-    rw (c .before .fresh .ensures, c .before .before .before .record-place .ensures, c .before .before .before .before .bytes .ensures, c .before .before .before .before .before .columns .ensures) (ap (λ (k : ℕ). fresh n m (a .i + 1) (take k (drop at (a .sheet .now))) .column) {x = at + m - at} {y = m} (omega arith))
+    rw (c .before .fresh .ensures, c .before .before .before .record-place .ensures, c .before .before .before .before .bytes .ensures, c .before .before .before .before .before .columns .ensures) (ap (λ (k : ℕ). fresh (a .protocol) n m (a .i + 1) (take k (drop at (a .sheet .now))) .column) {x = at + m - at} {y = m} (omega arith))
 
 pub made-spec : {M : Type 1} → statement M
 made-spec =

@@ -4,7 +4,7 @@ use mathlib.Core.Path.{ap}
 use Rattle.sizes.specs.Sizes.{outside, refusal as refusalOfSizes}
 use Rattle.messages.specs.Messages.{refusal}
 use Rattle.agreement.specs.declared.Answered.{Answered}
-use Rattle.agreement.specs.Calls.{answered, freshRefusal, fresh}
+use Rattle.agreement.specs.Calls.{answered, orElse, freshRefusal, fresh}
 use Rattle.wall_run.proofs.start.no_column.Statement.{statement}
 use Rattle.wall_run.proofs.start.no_column.Tie as tie
 
@@ -15,7 +15,7 @@ fresh-requires : tie.Need-fresh-requires
 fresh-requires c κs = search needs
 
 returns : tie.Need-returns
-unfolding fresh answered freshRefusal refusal refusalOfSizes outside
+unfolding fresh answered freshRefusal orElse refusal refusalOfSizes outside
 returns c = ap (λ (a : Answered). a .column) (c .before .fresh .ensures)
 
 pub no-column-spec : {M : Type 1} → statement M

@@ -12,10 +12,10 @@ use Rattle.wall_run.proofs.start.start.Statement.{statement}
 use Rattle.wall_run.proofs.start.start.Tie as tie
 
 abbrev Inv-loop : tie.InvT-loop
-Inv-loop sheet n wall₀ i₀ wall i = Filled (made sheet) n wall₀ wall i
+Inv-loop protocol sheet n wall₀ i₀ wall i = Filled (made protocol sheet) n wall₀ wall i
 
 abbrev μ-loop : tie.MeasureT-loop
-μ-loop sheet n wall₀ i₀ wall i = n - i
+μ-loop protocol sheet n wall₀ i₀ wall i = n - i
 
 columns-requires : tie.Need-columns-requires Inv-loop μ-loop
 columns-requires c κs = tt
@@ -49,7 +49,7 @@ loop-again c = filled-more _ _ _ _ _ _ (c .before .before .loop .inv) (omega ari
 
 returns : tie.Need-returns Inv-loop μ-loop
 unfolding start
-returns c = filled-part _ _ _ _ _ (c .before .loop .inv) (omega arith) ∙ ap₂ {C = List Column} (λ n none. listOf (made (c .before .before .before .before .before .args .sheet .now)) n ++ drop n (replicate 31 none)) (c .before .before .before .columns .ensures) (c .before .before .no-column .ensures)
+returns c = filled-part _ _ _ _ _ (c .before .loop .inv) (omega arith) ∙ ap₂ {C = List Column} (λ n none. listOf (made (c .before .before .before .before .before .args .protocol) (c .before .before .before .before .before .args .sheet .now)) n ++ drop n (replicate 31 none)) (c .before .before .before .columns .ensures) (c .before .before .no-column .ensures)
 
 pub start-spec : {M : Type 1} → statement M
 start-spec =

@@ -1,12 +1,13 @@
 // A posting wall: one column posts its record of the sheet, and the others take it (Protocol 3.11). It is a wall run with the poster's
 // number beside the sheet.
 use sizes::Protocol;
+use wall_run::Entry;
 use wall_run::Outcomes;
 ghost use mathlib.Core.Path.{_≡_};
 ghost use Prim.Native.Nat.{_≤_};
 ghost use lib.ListN.{length};
 ghost use Rattle.sizes.specs.declared.Protocol.the-variants.{Posting};
-ghost use Rattle.wall_run.specs.Run.{refusal as refusalOf, outcomes};
+ghost use Rattle.wall_run.specs.Run.{refusal as refusalOf, outcomes, rowAfter};
 ghost use Rattle.posting_run.specs.Number.{withDigit, readTo, number};
 
 // The refusal of a sheet with a poster's number beside it, for a row of `rows` entries: 1, 2, 3, 4, 5, 6 as document 01 numbers and orders
@@ -22,6 +23,14 @@ pub fn outcomes_of(poster: u8, sheet: &[u8], rows: usize) -> Outcomes
     ensures { λ r. ⌜ r ≡ outcomes (Posting poster) (now (sheet .entry)) rows ⌝ }
 {
     wall_run::outcomes_of(Protocol::Posting(poster), sheet, rows)
+}
+
+// Runs the posting wall that a sheet describes and writes each column's entry to the row, which must have as many places as the wall has
+// columns. Answers 0, or the number of the refusal; then no entry is written.
+pub fn run<'a>(poster: u8, sheet: &'a [u8], row: &'a mut [Entry]) -> u8
+    ensures { λ r. ⌜ (r ≡ refusalOf (Posting poster) (now (sheet .entry)) (length (now (row .entry)))) × (now (row .exit) ≡ rowAfter (Posting poster) (now (sheet .entry)) (now (row .entry))) ⌝ }
+{
+    wall_run::run(Protocol::Posting(poster), sheet, row)
 }
 
 // A number with one digit more; 256 where the letter is no digit or the number no byte.

@@ -30,7 +30,7 @@ returns : tie.Need-returns
 unfolding listingOf
 returns c =
     let a = c .before .before .before .before .before .before .before .before .before .args in
-    let e : listing (c .before .before .before .before .before .before .columns .result) (c .before .before .before .before .before .bytes .result) (c .before .before .before .before .outcomes-of .result) ≡ listingOf (a .sheet .now) = rw (c .before .before .before .before .outcomes-of .ensures, c .before .before .before .before .before .bytes .ensures, c .before .before .before .before .before .before .columns .ensures) refl in
+    let e : listing (a .protocol) (c .before .before .before .before .before .before .columns .result) (c .before .before .before .before .before .bytes .result) (c .before .before .before .before .outcomes-of .result) ≡ listingOf (a .protocol) (a .sheet .now) = rw (c .before .before .before .before .outcomes-of .ensures, c .before .before .before .before .before .bytes .ensures, c .before .before .before .before .before .before .columns .ensures) refl in
     (c .before .before .write-outcomes .ensures .0 ∙ ap (λ (text : List ℕ). min (length text) (length (a .out .now))) e, c .before .before .write-outcomes .ensures .1 ∙ ap (λ (text : List ℕ). shown text (a .out .now)) e)
 
 pub write-spec : {M : Type 1} → statement M

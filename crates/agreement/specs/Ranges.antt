@@ -34,7 +34,7 @@ use Rattle.agreement.specs.declared.Kind.{Kind}
 use Rattle.agreement.specs.declared.Kind.the-variants.{Exchange, FirstReport, SecondReport, Votes, Proposals, King, Points, KeptPoints, Post}
 use Rattle.agreement.specs.Column.{freshColumn, freshIn, namesFit, stageFits, byteFits, flagFits, pointFits, numbersFit, arraysFit, fits}
 use Rattle.agreement.specs.Parts.{withStage, withBytes, withProposal, withAgreements, withReports, withGrade, withVote, withKept}
-use Rattle.agreement.specs.Rounds.{votesOne, spreads, received, kingSaid, graded, firstVote, resettled, outcomeOf, endsOn, postedBy, isByte, byteAt, takenRecord, posted, goesOn, hears, kindIn, voteIn, voteAfter, voting, recast}
+use Rattle.agreement.specs.Rounds.{votesOne, spreads, received, kingSaid, graded, firstVote, resettled, outcomeOf, endsOn, postedBy, sentByte, postedByte, takenRecord, posted, goesOn, hears, kindIn, voteIn, voteAfter, voting, recast}
 use Rattle.agreement.specs.Kinds.{ends, before-last}
 use Rattle.agreement.specs.Course.{course, listening, course-is}
 
@@ -136,7 +136,7 @@ unfolding goesOn stageFits
 goes-fits p round c l h = with-stage p c h (Speak (round + 1)) (round-fits (roundsIn p (c .n)) (round + 1) (omega arith) (omega arith))
 
 hears-fits : (p : Protocol) (kind : Kind) (round : ℕ) (c : Column) (inbox : List ℕ) → (ends kind ≡ false → round < roundsIn p (c .n)) → T (fits p c) → T (fits p (hears kind round c inbox))
-unfolding hears withProposal withAgreements withReports withGrade withVote withKept withBytes graded resettled outcomeOf posted takenRecord byteAt ends
+unfolding hears withProposal withAgreements withReports withGrade withVote withKept withBytes graded resettled outcomeOf posted takenRecord postedByte ends
 hears-fits p Exchange round c inbox l h =
     goes-fits p round _ (l refl) (with-agreements p c h _ (flags-fit (c .n) _ (agreements-past (c .n) (c .m) (c .own) (c .bytes) inbox)))
 hears-fits p FirstReport round c inbox l h = goes-fits p round _ (l refl) (with-reports p c h _ (flags-fit (c .n) _ (reports-past (c .n) (received FirstReport c inbox))))
@@ -157,15 +157,15 @@ hears-fits p KeptPoints round c inbox l h = ends-fits p c h (outcomeOf c inbox) 
     decoded-past : (b : Bool) (received : ℕ → ℕ → ℕ) (r : List ℕ) (p : ℕ) → _≡_ {A = Option (List ℕ)} (cond b (recordOf (c .n) (c .m) received) none) (some r) → c .m ≤ p → p < 32 → getD r p 0 ≡ 0
     decoded-past true received r p e u v = record-past (c .n) (c .m) received r p e u v
     decoded-past false received r p e u v = let z : _≡_ {A = ℕ} 0 1 = cc in absurd (omega arith)
-hears-fits p (Post s) round c inbox l h = goes-fits p round _ (l refl) (with-bytes p c h _ (either Fits (eqb (c .own) s) _ _ (bytes-were p c h) (either Fits (all (isByte (postedBy s c inbox)) (c .m)) _ _ sent-fits zeros-fit)))
+hears-fits p (Post s) round c inbox l h = goes-fits p round _ (l refl) (with-bytes p c h _ (either Fits (eqb (c .own) s) _ _ (bytes-were p c h) (either Fits (all (sentByte (postedBy s c inbox)) (c .m)) _ _ sent-fits zeros-fit)))
   where
     Fits : List ℕ → Type 0
     Fits bytes = T (all (byteFits (c .m) bytes) 32)
 
-    sent-fits : Fits (listOf (byteAt (c .m) (postedBy s c inbox)) 32)
+    sent-fits : Fits (listOf (postedByte (c .m) (postedBy s c inbox)) 32)
     sent-fits =
-        bytes-fit (c .m) (listOf (byteAt (c .m) (postedBy s c inbox)) 32) (λ q l u.
-        getD-listOf (byteAt (c .m) (postedBy s c inbox)) 32 q 0 u ∙ rw (le-ltb q (c .m) l) refl)
+        bytes-fit (c .m) (listOf (postedByte (c .m) (postedBy s c inbox)) 32) (λ q l u.
+        getD-listOf (postedByte (c .m) (postedBy s c inbox)) 32 q 0 u ∙ rw (le-ltb q (c .m) l) refl)
 
     zeros-fit : Fits (replicate 32 0)
     zeros-fit = bytes-fit (c .m) (replicate 32 0) (λ q l u. getD-replicate 32 q 0 0 u)

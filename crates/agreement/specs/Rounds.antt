@@ -130,16 +130,16 @@ unfoldable pub postedBy : ℕ → Column → List ℕ → ℕ → ℕ
 postedBy s c inbox k = inRow (c .m) inbox s k blank
 
 -- value k of it is a byte
-unfoldable pub isByte : (ℕ → ℕ) → ℕ → Bool
-isByte sent k = ltb (readByte (sent k)) 256
+unfoldable pub sentByte : (ℕ → ℕ) → ℕ → Bool
+sentByte sent k = ltb (readByte (sent k)) 256
 
 -- byte p of a record of m bytes that was sent
-unfoldable pub byteAt : ℕ → (ℕ → ℕ) → ℕ → ℕ
-byteAt m sent p = cond (ltb p m && isByte sent p) (sent p) 0
+unfoldable pub postedByte : ℕ → (ℕ → ℕ) → ℕ → ℕ
+postedByte m sent p = cond (ltb p m && sentByte sent p) (sent p) 0
 
 -- "A receiver that finds a value outside 0 to 255 takes a record of m zeros."
 unfoldable pub takenRecord : ℕ → (ℕ → ℕ) → List ℕ
-takenRecord m sent = cond (all (isByte sent) m) (listOf (byteAt m sent) 32) (replicate 32 0)
+takenRecord m sent = cond (all (sentByte sent) m) (listOf (postedByte m sent) 32) (replicate 32 0)
 
 -- the record after the poster spoke; the poster keeps its own
 unfoldable pub posted : ℕ → Column → List ℕ → List ℕ

@@ -9,7 +9,7 @@ ghost use Rattle.lists.specs.Lists.{all};
 ghost use Rattle.messages.specs.Messages.{readByte};
 ghost use Rattle.dissemination.specs.Laws.{silenced};
 ghost use Rattle.agreement.specs.declared.Kind.the-variants.{Post};
-ghost use Rattle.agreement.specs.Rounds.{postedBy, isByte, byteAt, takenRecord, posted as postedOf, hears};
+ghost use Rattle.agreement.specs.Rounds.{postedBy, sentByte, postedByte, takenRecord, posted as postedOf, hears};
 ghost use Rattle.calls.specs.Ready.{Ready, toColumns};
 
 // A byte as a value.
@@ -69,7 +69,7 @@ fn is_byte(v: u16) -> bool
 
 // Whether all values of the poster's message are bytes.
 fn are_bytes(column: Column, poster: u8, inbox: &[u16]) -> bool
-    ensures { λ r. ⌜ r ≡ all (isByte (postedBy poster column (now (inbox .entry)))) (column .m) ⌝ }
+    ensures { λ r. ⌜ r ≡ all (sentByte (postedBy poster column (now (inbox .entry)))) (column .m) ⌝ }
 {
     let m = column.m;
     for k in 0..m {
@@ -82,7 +82,7 @@ fn are_bytes(column: Column, poster: u8, inbox: &[u16]) -> bool
 
 // Byte p of the record that was posted; 0 past m, and for a value that is no byte.
 fn byte_at(column: Column, poster: u8, inbox: &[u16], p: u8) -> u8
-    ensures { λ r. ⌜ r ≡ byteAt (column .m) (postedBy poster column (now (inbox .entry))) p ⌝ }
+    ensures { λ r. ⌜ r ≡ postedByte (column .m) (postedBy poster column (now (inbox .entry))) p ⌝ }
 {
     if column.m <= p {
         return 0;

@@ -83,8 +83,7 @@ accepted number line sheet rows =
     go false true true d ea eb ec ed h = absurd (omega arith)
     go false true false false ea eb ec ed h = absurd (omega arith)
     go false true false true ea eb ec ed h =
-        let number-fits = eqb→eq _ _ (passes _ eb) in
-        (
+        let number-fits = eqb→eq _ _ (passes _ eb) in (
           record {
             arrays-there = record { range = accepted-sizes _ _ _ number-fits .range; long = ltb-false _ _ ec };
             rows-are = eqb→eq _ _ (passes _ ed);

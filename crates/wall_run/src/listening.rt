@@ -49,15 +49,7 @@ pub(super) fn listen_all(
     for i in 0..n {
         let at = i as usize;
         let column = wall[at];
-        next[at] = hear(
-            protocol,
-            sheet,
-            round,
-            mail,
-            i,
-            column,
-            &mut inbox[..len],
-        );
+        next[at] = hear(protocol, sheet, round, mail, i, column, &mut inbox[..len]);
     }
     next
 }

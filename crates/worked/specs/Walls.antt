@@ -98,3 +98,42 @@ firm =
     ++ (1 ∷ 0 ∷ [])
     ++ blanks 1
     ++ (0x41 ∷ 0 ∷ [])
+
+-- POSTINGS: lines of m + 4B + 2 values, the posting, two of the exchange, two reports, a point and a kept point
+
+-- column 1 posts 41; column 4 is unsound and says that 42 was posted
+abbrev lie : List ℕ
+lie = 0x42 ∷ 0 ∷ 0x42 ∷ 0 ∷ 0x42 ∷ 0 ∷ 1 ∷ 0 ∷ 1 ∷ 0 ∷ 0x42 ∷ 0 ∷ 0x42 ∷ 0 ∷ []
+
+abbrev pub poster : List ℕ
+poster = (4 ∷ 1 ∷ []) ++ (0 ∷ 0 ∷ 0 ∷ 1 ∷ []) ++ (0x41 ∷ 7 ∷ 7 ∷ 0 ∷ []) ++ lie ++ lie ++ lie ++ lie
+
+-- column 4 posts and is unsound: 41 to columns 1 and 2, 42 to column 3; then it reports as in the sheet of document 01
+abbrev pub camps : List ℕ
+camps =
+    (4 ∷ 1 ∷ [])
+    ++ (0 ∷ 0 ∷ 0 ∷ 1 ∷ [])
+    ++ (0 ∷ 0 ∷ 0 ∷ 0 ∷ [])
+    ++ (0x41 ∷ 0 ∷ 0x41 ∷ 0 ∷ 0x41 ∷ 0 ∷ 1 ∷ 0 ∷ 1 ∷ 0 ∷ [])
+    ++ blanks 2
+    ++ (0x41 ∷ 0 ∷ 0x41 ∷ 0 ∷ 0x41 ∷ 0 ∷ 1 ∷ 0 ∷ [])
+    ++ blanks 3
+    ++ (0x42 ∷ 0 ∷ [])
+    ++ blanks 6
+    ++ blanks 7
+
+-- it posts nothing
+abbrev pub silence : List ℕ
+silence = (4 ∷ 1 ∷ []) ++ (0 ∷ 0 ∷ 0 ∷ 1 ∷ []) ++ (0 ∷ 0 ∷ 0 ∷ 0x41 ∷ []) ++ blanks 28
+
+-- it helps column 1 to the record, and nobody else
+abbrev pub favour : List ℕ
+favour =
+    (4 ∷ 1 ∷ [])
+    ++ (0 ∷ 0 ∷ 0 ∷ 1 ∷ [])
+    ++ (0 ∷ 0 ∷ 0 ∷ 0 ∷ [])
+    ++ (0x41 ∷ 0 ∷ 0x41 ∷ 0 ∷ 0x41 ∷ 0 ∷ 1 ∷ 0 ∷ 0xff ∷ 0xff ∷ 0x41 ∷ 0 ∷ 0x41 ∷ 0 ∷ [])
+    ++ (0x41 ∷ 0 ∷ 0x41 ∷ 0 ∷ 0x41 ∷ 0 ∷ 0xff ∷ 0xff ∷ 0xff ∷ 0xff ∷ 0x41 ∷ 0 ∷ 0xff ∷ 0xff ∷ [])
+    ++ (0x42 ∷ 0 ∷ [])
+    ++ blanks 6
+    ++ blanks 7

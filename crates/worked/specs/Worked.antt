@@ -1,28 +1,29 @@
--- Document 01, "Sizes of a wall" and "Worked values", in their order, then walls that tell thresholds apart. Each is shown by computing with
--- the definitions.
+-- Document 01, "Sizes of a wall" and "Worked values", in their order, then walls that tell thresholds apart, and postings. Each is shown by
+-- computing with the definitions.
 use mathlib.Core.Path.{_≡_, refl}
 use mathlib.Core.List.{[], _∷_, _++_}
 use Prim.Native.Nat.{ℕ}
 use Rattle.lists.specs.Lists.{count, sum, all, listOf, rowsOf}
 use Rattle.field.specs.Field.{add, multiply, inverse, inverseBelow}
 use Rattle.block.specs.Block.{part, value}
-use Rattle.sizes.specs.Sizes.{faults, degree, blocks, rounds, values, line, refusal, outside}
-use Rattle.messages.specs.Messages.{readPoint, readReport, readBit, said, from, refusal as refusalOfLength, unlessRefused, heard, heardFrom, heardOfAll, times}
+use Rattle.sizes.specs.declared.Protocol.the-variants.{Agreement, Posting}
+use Rattle.sizes.specs.Sizes.{faults, degree, blocks, rounds, values, line, refusal, outside, postingValues, roundsIn, valuesIn, lineIn, beside}
+use Rattle.messages.specs.Messages.{readPoint, readReport, readBit, readByte, said, from, refusal as refusalOfLength, unlessRefused, heard, heardFrom, heardOfAll, times}
 use Rattle.codeword.specs.Codeword.{point, values as valuesAt}
 use Rattle.decoder.specs.Decoder.{decoded, found, seek, through, under, slopes, answerOf, polynomialOf, coefficients}
 use Rattle.decoder.specs.declared.Decoded.the-variants.{Polynomial, Nothing}
 use Rattle.king.specs.King.{phases, bits, chosen, proposal, settled, firm, word, crowned}
 use Rattle.dispersal.specs.Dispersal.{exchange, agreesIn, agreesWith, agreementAt, agreements, agrees, firstQuorum, firstReport, reportAt, reports, reported, both, secondQuorum, secondReport, readReports, grade}
 use Rattle.dissemination.specs.Dissemination.{spoken, pointsIn, points, least, often, keptPoint, keptAt, keptPoints, pointAt, blockOf, there, coefficient, isByte, isBlock, byteAt, recordOf}
-use Rattle.agreement.specs.Column.{freshColumn, stageFits, byteFits, flagFits, pointFits, numbersFit, arraysFit, fits}
+use Rattle.agreement.specs.Column.{freshColumn, freshIn, namesFit, stageFits, byteFits, flagFits, pointFits, numbersFit, arraysFit, fits}
 use Rattle.agreement.specs.Parts.{withStage, withBytes, withProposal, withAgreements, withReports, withGrade, withVote, withKept}
-use Rattle.agreement.specs.Rounds.{kingRound, laterRound, kindOf, votesOne, spreads, message, outgoing, received, kingSaid, graded, firstVote, resettled, outcomeOf, endsOn, goesOn, hears}
-use Rattle.agreement.specs.Calls.{answerOf as answerTo, answered, freshRefusal, fresh, noColumn, roundOf, whenSpeaking, whenListening, whenAsked, inState, inRound, speakRefusal, speak, written, listenRefusal, listen, outcomeRefusal, ending, replyOf, shown, outcome}
+use Rattle.agreement.specs.Rounds.{kingRound, laterRound, kindOf, postingKind, kindIn, voteIn, voteAfter, voting, recast, postedBy, sentByte, postedByte, takenRecord, posted, listens, votesOne, spreads, message, outgoing, received, kingSaid, graded, firstVote, resettled, outcomeOf, endsOn, goesOn, hears}
+use Rattle.agreement.specs.Calls.{answerOf as answerTo, answered, orElse, freshRefusal, fresh, noColumn, roundOf, whenSpeaking, whenListening, whenAsked, inState, inRound, speakRefusal, speak, written, listenRefusal, listen, outcomeRefusal, ending, replyOf, shown, outcome, gradeIn}
 use Rattle.sheet.specs.Sheet.{columns, bytes, mark, sound, unsound, unsoundTo, recordPlace, recordOf as recordIn, arrays, word as wordAt, lineValue, whole, markFits, inOrder, refusalOfMarks, refusal as refusalOfSheet}
 use Rattle.delivery.specs.Delivery.{mailed, lied, sent, inbox}
-use Rattle.wall_run.specs.Run.{columnAt, turned, each, made, start, roundAt, blanks, spoken as spoke, words, wordsOf, mail, heard as heardBy, played, after, ended, hasRecord, markOnly, soundEntry, entryOf, entryIn, refusal as refusalOfRun, inPlaces, settled as ran, refused, outcomes}
+use Rattle.wall_run.specs.Run.{columnAt, turned, each, made, start, roundAt, blanks, spoken as spoke, words, wordsOf, mail, heard as heardBy, played, after, ended, hasRecord, markOnly, gradeShown, soundEntry, entryOf, entryIn, refusal as refusalOfRun, inPlaces, settled as ran, refused, outcomes}
 use Rattle.listing.specs.Listing.{ascii, joined, digit, decimal, named, hexDigit, hex, hexAt, hexes, sizesLine, recordText, soundLine, unsoundLine, columnLine, lineAt, columnLines, refusedLine, listing, listingOf}
-use Rattle.worked.specs.Walls.{sheet, alike, apart, six, ten, firm as firmVotes}
+use Rattle.worked.specs.Walls.{sheet, alike, apart, six, ten, firm as firmVotes, poster, camps, silence, favour}
 
 -- t and d of n columns
 abbrev Gives : ℕ → ℕ → ℕ → Type 0
@@ -56,35 +57,35 @@ pub record Worked : Type 0 where
   pub three-blank : decoded 10 (65535 ∷ 65535 ∷ 65535 ∷ 14 ∷ 17 ∷ 20 ∷ 23 ∷ 26 ∷ 29 ∷ 32 ∷ []) ≡ Polynomial (coefficients (2 ∷ 3 ∷ []))
   pub four-blank : decoded 10 (65535 ∷ 65535 ∷ 65535 ∷ 65535 ∷ 17 ∷ 20 ∷ 23 ∷ 26 ∷ 29 ∷ 32 ∷ []) ≡ Nothing
   -- "The sheet above.": its listing, to the byte
-  pub the-sheet : listingOf sheet
+  pub the-sheet : listingOf Agreement sheet
       ≡ ascii "wall 4 1 t 1 d 0 blocks 1 rounds 11\n"
       ++ ascii "1 sound grade 2 bit 1 record 41\n"
       ++ ascii "2 sound grade 1 bit 1 record 41\n"
       ++ ascii "3 sound grade 0 bit 1 record 41\n"
       ++ ascii "4 unsound\n"
   -- "Records 41 41 41, column 4 blank: all grade 2, record 41. Records 41 41 42, column 4 blank: grades 0, none."
-  pub records-alike : listingOf alike
+  pub records-alike : listingOf Agreement alike
       ≡ ascii "wall 4 1 t 1 d 0 blocks 1 rounds 11\n"
       ++ ascii "1 sound grade 2 bit 1 record 41\n"
       ++ ascii "2 sound grade 2 bit 1 record 41\n"
       ++ ascii "3 sound grade 2 bit 1 record 41\n"
       ++ ascii "4 unsound\n"
-  pub records-apart : listingOf apart
+  pub records-apart : listingOf Agreement apart
       ≡ ascii "wall 4 1 t 1 d 0 blocks 1 rounds 11\n"
       ++ ascii "1 sound grade 0 bit 0 record none\n"
       ++ ascii "2 sound grade 0 bit 0 record none\n"
       ++ ascii "3 sound grade 0 bit 0 record none\n"
       ++ ascii "4 unsound\n"
   -- "A sheet shorter than 2 bytes gives 4 first of all"; 1, 2, 5 and 6 before the sheet's full length
-  pub no-byte : listingOf [] ≡ ascii "refused 4\n"
-  pub too-few-columns : listingOf (3 ∷ 0 ∷ []) ≡ ascii "refused 1\n"
-  pub no-record : listingOf (4 ∷ 0 ∷ []) ≡ ascii "refused 2\n"
-  pub arrays-short : listingOf (4 ∷ 1 ∷ 2 ∷ 0 ∷ 0 ∷ 0 ∷ 1 ∷ 1 ∷ 1 ∷ []) ≡ ascii "refused 4\n"
-  pub no-such-mark : listingOf (4 ∷ 1 ∷ 1 ∷ 1 ∷ 1 ∷ 2 ∷ 1 ∷ 1 ∷ 1 ∷ 1 ∷ []) ≡ ascii "refused 5\n"
-  pub too-many-unsound : listingOf (4 ∷ 1 ∷ 1 ∷ 1 ∷ 0 ∷ 0 ∷ 1 ∷ 1 ∷ 1 ∷ 1 ∷ []) ≡ ascii "refused 6\n"
-  pub lines-missing : listingOf (4 ∷ 1 ∷ 0 ∷ 1 ∷ 0 ∷ 0 ∷ 1 ∷ 1 ∷ 1 ∷ 1 ∷ []) ≡ ascii "refused 4\n"
+  pub no-byte : listingOf Agreement [] ≡ ascii "refused 4\n"
+  pub too-few-columns : listingOf Agreement (3 ∷ 0 ∷ []) ≡ ascii "refused 1\n"
+  pub no-record : listingOf Agreement (4 ∷ 0 ∷ []) ≡ ascii "refused 2\n"
+  pub arrays-short : listingOf Agreement (4 ∷ 1 ∷ 2 ∷ 0 ∷ 0 ∷ 0 ∷ 1 ∷ 1 ∷ 1 ∷ []) ≡ ascii "refused 4\n"
+  pub no-such-mark : listingOf Agreement (4 ∷ 1 ∷ 1 ∷ 1 ∷ 1 ∷ 2 ∷ 1 ∷ 1 ∷ 1 ∷ 1 ∷ []) ≡ ascii "refused 5\n"
+  pub too-many-unsound : listingOf Agreement (4 ∷ 1 ∷ 1 ∷ 1 ∷ 0 ∷ 0 ∷ 1 ∷ 1 ∷ 1 ∷ 1 ∷ []) ≡ ascii "refused 6\n"
+  pub lines-missing : listingOf Agreement (4 ∷ 1 ∷ 0 ∷ 1 ∷ 0 ∷ 0 ∷ 1 ∷ 1 ∷ 1 ∷ 1 ∷ []) ≡ ascii "refused 4\n"
   -- n - t is 5 and 2t + 1 is 3: three second reports give grade 2
-  pub six-columns : listingOf six
+  pub six-columns : listingOf Agreement six
       ≡ ascii "wall 6 1 t 1 d 0 blocks 1 rounds 11\n"
       ++ ascii "1 sound grade 2 bit 1 record 41\n"
       ++ ascii "2 sound grade 2 bit 1 record 41\n"
@@ -93,7 +94,7 @@ pub record Worked : Type 0 where
       ++ ascii "5 sound grade 0 bit 1 record 41\n"
       ++ ascii "6 unsound\n"
   -- d = 1: a wrong point a block in the last round is corrected
-  pub ten-columns : listingOf ten
+  pub ten-columns : listingOf Agreement ten
       ≡ ascii "wall 10 3 t 3 d 1 blocks 2 rounds 17\n"
       ++ ascii "1 sound grade 2 bit 1 record ff0141\n"
       ++ ascii "2 unsound\n"
@@ -106,15 +107,46 @@ pub record Worked : Type 0 where
       ++ ascii "9 sound grade 2 bit 1 record ff0141\n"
       ++ ascii "10 sound grade 2 bit 1 record ff0141\n"
   -- a firm vote stands against a lying king
-  pub firm-votes : listingOf firmVotes
+  pub firm-votes : listingOf Agreement firmVotes
       ≡ ascii "wall 4 1 t 1 d 0 blocks 1 rounds 11\n"
       ++ ascii "1 sound grade 2 bit 1 record 41\n"
       ++ ascii "2 unsound\n"
       ++ ascii "3 sound grade 2 bit 1 record 41\n"
       ++ ascii "4 sound grade 2 bit 1 record 41\n"
+  -- POSTINGS. A sound poster: everyone its record at grade 2, and the other records of the sheet are not read
+  pub sound-poster : listingOf (Posting 1) poster
+      ≡ ascii "wall 4 1 t 1 d 0 blocks 1 rounds 6\n"
+      ++ ascii "1 sound grade 2 bit 1 record 41\n"
+      ++ ascii "2 sound grade 2 bit 1 record 41\n"
+      ++ ascii "3 sound grade 2 bit 1 record 41\n"
+      ++ ascii "4 unsound\n"
+  -- one sound grade 2 with a record binds all to it at grade 1 or 2
+  pub two-camps : listingOf (Posting 4) camps
+      ≡ ascii "wall 4 1 t 1 d 0 blocks 1 rounds 6\n"
+      ++ ascii "1 sound grade 2 bit 1 record 41\n"
+      ++ ascii "2 sound grade 1 bit 1 record 41\n"
+      ++ ascii "3 sound grade 1 bit 1 record 41\n"
+      ++ ascii "4 unsound\n"
+  -- "A receiver that finds a value outside 0 to 255 takes a record of m zeros."
+  pub silent-poster : listingOf (Posting 4) silence
+      ≡ ascii "wall 4 1 t 1 d 0 blocks 1 rounds 6\n"
+      ++ ascii "1 sound grade 2 bit 1 record 00\n"
+      ++ ascii "2 sound grade 2 bit 1 record 00\n"
+      ++ ascii "3 sound grade 2 bit 1 record 00\n"
+      ++ ascii "4 unsound\n"
+  -- "else grade 1 if decoding gave a record; else none at grade 0"
+  pub one-alone : listingOf (Posting 4) favour
+      ≡ ascii "wall 4 1 t 1 d 0 blocks 1 rounds 6\n"
+      ++ ascii "1 sound grade 1 bit 1 record 41\n"
+      ++ ascii "2 sound grade 0 bit 1 record none\n"
+      ++ ascii "3 sound grade 0 bit 1 record none\n"
+      ++ ascii "4 unsound\n"
+  -- 3 between 2 and 4
+  pub no-such-poster : listingOf (Posting 5) (4 ∷ 1 ∷ []) ≡ ascii "refused 3\n"
+  pub bytes-before-poster : listingOf (Posting 0) (4 ∷ 0 ∷ []) ≡ ascii "refused 2\n"
 
 pub worked : Worked
-unfolding count sum all listOf rowsOf inverse inverseBelow part value faults degree blocks rounds values line refusal outside readPoint readReport readBit said from refusalOfLength unlessRefused heard heardFrom heardOfAll times point valuesAt decoded found seek through under slopes answerOf polynomialOf phases bits chosen proposal settled firm word crowned exchange agreesIn agreesWith agreementAt agreements agrees firstQuorum firstReport reportAt reports reported both secondQuorum secondReport readReports grade spoken pointsIn points least often keptPoint keptAt keptPoints pointAt blockOf there coefficient isByte isBlock byteAt recordOf freshColumn stageFits byteFits flagFits pointFits numbersFit arraysFit fits withStage withBytes withProposal withAgreements withReports withGrade withVote withKept kingRound laterRound kindOf votesOne spreads message outgoing received kingSaid graded firstVote resettled outcomeOf endsOn goesOn hears answerTo answered freshRefusal fresh noColumn roundOf whenSpeaking whenListening whenAsked inState inRound speakRefusal speak written listenRefusal listen outcomeRefusal ending replyOf shown outcome columns bytes mark sound unsound unsoundTo recordPlace recordIn arrays wordAt lineValue whole markFits inOrder refusalOfMarks refusalOfSheet mailed lied sent inbox columnAt turned each made start roundAt blanks spoke words wordsOf mail heardBy played after ended hasRecord markOnly soundEntry entryOf entryIn refusalOfRun inPlaces ran refused outcomes ascii joined digit decimal named hexDigit hex hexAt hexes sizesLine recordText soundLine unsoundLine columnLine lineAt columnLines refusedLine listing listingOf
+unfolding postingValues roundsIn valuesIn lineIn beside readByte freshIn namesFit postingKind kindIn voteIn voteAfter voting recast postedBy sentByte postedByte takenRecord posted listens orElse gradeIn gradeShown count sum all listOf rowsOf inverse inverseBelow part value faults degree blocks rounds values line refusal outside readPoint readReport readBit said from refusalOfLength unlessRefused heard heardFrom heardOfAll times point valuesAt decoded found seek through under slopes answerOf polynomialOf phases bits chosen proposal settled firm word crowned exchange agreesIn agreesWith agreementAt agreements agrees firstQuorum firstReport reportAt reports reported both secondQuorum secondReport readReports grade spoken pointsIn points least often keptPoint keptAt keptPoints pointAt blockOf there coefficient isByte isBlock byteAt recordOf freshColumn stageFits byteFits flagFits pointFits numbersFit arraysFit fits withStage withBytes withProposal withAgreements withReports withGrade withVote withKept kingRound laterRound kindOf votesOne spreads message outgoing received kingSaid graded firstVote resettled outcomeOf endsOn goesOn hears answerTo answered freshRefusal fresh noColumn roundOf whenSpeaking whenListening whenAsked inState inRound speakRefusal speak written listenRefusal listen outcomeRefusal ending replyOf shown outcome columns bytes mark sound unsound unsoundTo recordPlace recordIn arrays wordAt lineValue whole markFits inOrder refusalOfMarks refusalOfSheet mailed lied sent inbox columnAt turned each made start roundAt blanks spoke words wordsOf mail heardBy played after ended hasRecord markOnly soundEntry entryOf entryIn refusalOfRun inPlaces ran refused outcomes ascii joined digit decimal named hexDigit hex hexAt hexes sizesLine recordText soundLine unsoundLine columnLine lineAt columnLines refusedLine listing listingOf
 worked =
     record {
       sizes-of-4 = (refl, refl);
@@ -150,4 +182,10 @@ worked =
       six-columns = refl;
       ten-columns = refl;
       firm-votes = refl;
+      sound-poster = refl;
+      two-camps = refl;
+      silent-poster = refl;
+      one-alone = refl;
+      no-such-poster = refl;
+      bytes-before-poster = refl;
     }

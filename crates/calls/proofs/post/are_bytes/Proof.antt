@@ -2,12 +2,12 @@
 use Prim.Native.Nat.{_-_}
 use native.Mathlib.Omega.{arith}
 use Rattle.lists.specs.Loops.{Checked, checked-none, checked-more, checked-fails, checked-done}
-use Rattle.agreement.specs.Rounds.{postedBy, isByte}
+use Rattle.agreement.specs.Rounds.{postedBy, sentByte}
 use Rattle.calls.proofs.post.are_bytes.Statement.{statement}
 use Rattle.calls.proofs.post.are_bytes.Tie as tie
 
 abbrev Inv-loop : tie.InvT-loop
-Inv-loop column poster inbox m k₀ k = Checked (isByte (postedBy poster column inbox)) m k
+Inv-loop column poster inbox m k₀ k = Checked (sentByte (postedBy poster column inbox)) m k
 
 abbrev μ-loop : tie.MeasureT-loop
 μ-loop column poster inbox m k₀ k = m - k
@@ -25,7 +25,7 @@ is-byte-requires : tie.Need-is-byte-requires Inv-loop μ-loop
 is-byte-requires c κs = tt
 
 returns : tie.Need-returns Inv-loop μ-loop
-unfolding isByte
+unfolding sentByte
 returns c = checked-fails _ _ _ _ (omega arith) (rw (c .before .before .posted-by .ensures) at (c .before .is-byte .ensures)) (c .if1 .taken)
 
 add-k : tie.Need-add-k Inv-loop μ-loop
@@ -35,7 +35,7 @@ loop-less : tie.Need-loop-less Inv-loop μ-loop
 loop-less c = omega arith
 
 loop-again : tie.Need-loop-again Inv-loop μ-loop
-unfolding isByte
+unfolding sentByte
 loop-again c = checked-more _ _ _ _ (c .before .before .before .before .loop .inv) (omega arith) (rw (c .before .before .posted-by .ensures) at (c .before .is-byte .ensures)) (c .if1 .left)
 
 returns-2 : tie.Need-returns-2 Inv-loop μ-loop

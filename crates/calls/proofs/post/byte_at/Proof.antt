@@ -8,7 +8,7 @@ use borrow.Author.Needs.{needs}
 use lib.Dec.{ltb}
 use Rattle.field.specs.Field.{blank}
 use Rattle.messages.specs.Messages.{readByte}
-use Rattle.agreement.specs.Rounds.{byteAt, isByte}
+use Rattle.agreement.specs.Rounds.{postedByte, sentByte}
 use Rattle.calls.proofs.post.byte_at.Statement.{statement}
 use Rattle.calls.proofs.post.byte_at.Tie as tie
 
@@ -22,7 +22,7 @@ reads-itself v = go (ltb v 256) refl
     go false e h = absurd (omega (arith, ltb-true blank 256 h))
 
 returns : tie.Need-returns
-unfolding byteAt
+unfolding postedByte
 returns c = simp (le-ltb _ _ (c .if1 .taken))
 
 posted-by-requires : tie.Need-posted-by-requires
@@ -32,14 +32,14 @@ is-byte-requires : tie.Need-is-byte-requires
 is-byte-requires c κs = search needs
 
 returns-2 : tie.Need-returns-2
-unfolding byteAt isByte
+unfolding postedByte sentByte
 returns-2 c = simp (lt-ltb _ _ (c .before .before .before .if1 .left), ← c .before .before .posted-by .ensures, sym (c .before .is-byte .ensures) ∙ not-true _ (c .if2 .taken))
 
 cast-result : tie.Need-cast-result
 cast-result c = omega (arith, reads-itself _ (sym (c .before .is-byte .ensures) ∙ not-false _ (c .if2 .left)))
 
 returns-3 : tie.Need-returns-3
-unfolding byteAt isByte
+unfolding postedByte sentByte
 returns-3 c = simp (lt-ltb _ _ (c .before .before .before .if1 .left), ← c .before .before .posted-by .ensures, sym (c .before .is-byte .ensures) ∙ not-false _ (c .if2 .left))
 
 pub byte-at-spec : {M : Type 1} → statement M

@@ -4,12 +4,12 @@ use Prim.Native.Nat.{_-_}
 use native.Mathlib.Omega.{arith}
 use borrow.Author.Tests.{not-true, not-false}
 use Rattle.lists.specs.Loops.{Filled, filled-none, filled-more, filled-done}
-use Rattle.agreement.specs.Rounds.{postedBy, byteAt, takenRecord}
+use Rattle.agreement.specs.Rounds.{postedBy, postedByte, takenRecord}
 use Rattle.calls.proofs.post.taken.Statement.{statement}
 use Rattle.calls.proofs.post.taken.Tie as tie
 
 abbrev Inv-loop : tie.InvT-loop
-Inv-loop column poster inbox bytes₀ p₀ bytes p = Filled (byteAt (column .m) (postedBy poster column inbox)) 32 bytes₀ bytes p
+Inv-loop column poster inbox bytes₀ p₀ bytes p = Filled (postedByte (column .m) (postedBy poster column inbox)) 32 bytes₀ bytes p
 
 abbrev μ-loop : tie.MeasureT-loop
 μ-loop column poster inbox bytes₀ p₀ bytes p = 32 - p

@@ -16,13 +16,15 @@ use Rattle.sizes.specs.Laws.{values-exchange, values-one, values-blocks}
 use Rattle.messages.specs.Messages.{said}
 use Rattle.messages.specs.Wall.{Sound, Delivered}
 use Rattle.king.specs.King.{phases}
+use Rattle.agreement.specs.declared.Stage.{Stage}
+use Rattle.agreement.specs.declared.Stage.the-variants.{Speak}
 use Rattle.agreement.specs.declared.Column.{Column}
 use Rattle.agreement.specs.declared.Kind.{Kind}
 use Rattle.agreement.specs.declared.Kind.the-variants.{Exchange, FirstReport, SecondReport, Votes, Proposals, King, Points, KeptPoints, Post}
 use Rattle.agreement.specs.Column.{freshColumn, freshIn}
 use Rattle.agreement.specs.Parts.{withStage, withBytes, withProposal, withAgreements, withReports, withGrade, withVote, withKept}
-use Rattle.agreement.specs.Rounds.{kindOf, kingRound, laterRound, kindIn, voteIn, voteAfter, voting, recast, message, outcomeOf, goesOn, endsOn, hears}
-use Rattle.agreement.specs.Kinds.{past-three, rewrites, keeps-on, rounds-of, kind-points, kind-kept}
+use Rattle.agreement.specs.Rounds.{kindOf, kingRound, laterRound, kindIn, voteIn, voteAfter, voting, recast, message, outcomeOf, endsOn, hears}
+use Rattle.agreement.specs.Kinds.{past-three, touches, rewrites, keeps-on, rounds-of, kind-points, kind-kept}
 use Rattle.agreement.specs.Course.{course, listening}
 use Rattle.agreement.specs.Courses.{Courses, state, next, sent}
 use Rattle.agreement.specs.Dispersal.{Disperses}
@@ -62,29 +64,29 @@ disseminates n m =
 -- WHAT STAYS
 
 -- the record, where no round rewrites it
-kept-bytes : (kind : Kind) (round : ℕ) (c : Column) (inbox : List ℕ) → rewrites kind ≡ false → hears kind round c inbox .bytes ≡ c .bytes
-unfolding hears goesOn withStage withProposal withAgreements withReports withGrade withVote withKept rewrites
-kept-bytes Exchange round c inbox e = refl
-kept-bytes FirstReport round c inbox e = refl
-kept-bytes SecondReport round c inbox e = refl
-kept-bytes Votes round c inbox e = refl
-kept-bytes Proposals round c inbox e = refl
-kept-bytes (King king) round c inbox e = refl
-kept-bytes Points round c inbox e = refl
-kept-bytes KeptPoints round c inbox e = absurd (true≢false e)
-kept-bytes (Post s) round c inbox e = absurd (true≢false e)
+kept-bytes : (kind : Kind) (next : Stage) (c : Column) (inbox : List ℕ) → rewrites kind ≡ false → hears kind next c inbox .bytes ≡ c .bytes
+unfolding hears withStage withProposal withAgreements withReports withGrade withVote withKept touches rewrites
+kept-bytes Exchange next c inbox e = refl
+kept-bytes FirstReport next c inbox e = refl
+kept-bytes SecondReport next c inbox e = refl
+kept-bytes Votes next c inbox e = refl
+kept-bytes Proposals next c inbox e = refl
+kept-bytes (King king) next c inbox e = refl
+kept-bytes Points next c inbox e = refl
+kept-bytes KeptPoints next c inbox e = absurd (true≢false e)
+kept-bytes (Post s) next c inbox e = absurd (true≢false e)
 
 -- the grade, in any round past the third
-later-grade : (many q round : ℕ) (c : Column) (inbox : List ℕ) → hears (laterRound many q) round c inbox .grade ≡ c .grade
-unfolding laterRound kingRound hears goesOn endsOn withStage withBytes withProposal withVote withKept
-later-grade many q round c inbox = go (ltb q many) (eqb q many) (eqb (q % 3) 0) (eqb (q % 3) 1)
+later-grade : (many q : ℕ) (next : Stage) (c : Column) (inbox : List ℕ) → hears (laterRound many q) next c inbox .grade ≡ c .grade
+unfolding laterRound kingRound hears endsOn withStage withBytes withProposal withVote withKept
+later-grade many q next c inbox = go (ltb q many) (eqb q many) (eqb (q % 3) 0) (eqb (q % 3) 1)
   where
     ended : (o : Option (List ℕ)) → endsOn o c .grade ≡ c .grade
     ended none = refl
     ended (some bytes) = refl
 
     go : (king points votes proposals : Bool)
-        → hears (cond king (cond votes Votes (cond proposals Proposals (King (q / 3 + 1)))) (cond points Points KeptPoints)) round c inbox .grade ≡ c .grade
+        → hears (cond king (cond votes Votes (cond proposals Proposals (King (q / 3 + 1)))) (cond points Points KeptPoints)) next c inbox .grade ≡ c .grade
     go true points true proposals = refl
     go true points false true = refl
     go true points false false = refl
@@ -102,7 +104,7 @@ module _ (n m own : ℕ) (bytes : List ℕ) (inbox : ℕ → List ℕ) where
   unfolding course freshIn freshColumn kindIn voting recast voteIn voteAfter withVote withStage
   record-lasts zero l = refl
   record-lasts (suc q) l =
-      kept-bytes (kindOf n (suc q)) (suc q) (listens-at q) (inbox (suc q)) (keeps-on n (suc q) (omega (arith, rounds-of n)) .1) ∙ record-lasts q (omega arith)
+      kept-bytes (kindOf n (suc q)) (Speak (suc q + 1)) (listens-at q) (inbox (suc q)) (keeps-on n (suc q) (omega (arith, rounds-of n)) .1) ∙ record-lasts q (omega arith)
 
   -- the grade with which it leaves dispersal is its grade ever after
   pub grade-lasts : (q : ℕ) → 3 ≤ q → at q .grade ≡ at 3 .grade
@@ -111,15 +113,15 @@ module _ (n m own : ℕ) (bytes : List ℕ) (inbox : ℕ → List ℕ) where
   grade-lasts (suc q) h =
       ⊎-elim (λ (e : 3 ≡ suc q). ap (λ (r : ℕ). at r .grade) (sym e))
       (λ (l : 3 < suc q).
-      ap (λ (kind : Kind). hears kind (suc q) (listens-at q) (inbox (suc q)) .grade) (past-three n (suc q) l _)
-      ∙ later-grade _ (suc q - 4) (suc q) (listens-at q) (inbox (suc q)) ∙ grade-lasts q (omega arith))
+      ap (λ (kind : Kind). hears kind (Speak (suc q + 1)) (listens-at q) (inbox (suc q)) .grade) (past-three n (suc q) l _)
+      ∙ later-grade _ (suc q - 4) (Speak (suc q + 1)) (listens-at q) (inbox (suc q)) ∙ grade-lasts q (omega arith))
       (eq-or-lt-of-le h)
 
 -- A ROUND, with the column's own vote
 
 module _ {n m : ℕ} {H : ℕ → Bool} {held : ℕ → List ℕ} {inbox : ℕ → ℕ → List ℕ} (C : Courses Agreement n m H held inbox) where
   pub agreed-next : (i q : ℕ) (kind : Kind) → kindOf n (suc q) ≡ kind
-      → state C i (suc q) ≡ hears kind (suc q) (listening Agreement n m i (held i) (inbox i) q) (inbox i (suc q))
+      → state C i (suc q) ≡ hears kind (Speak (suc q + 1)) (listening Agreement n m i (held i) (inbox i) q) (inbox i (suc q))
   unfolding kindIn voting recast voteIn voteAfter withVote
   agreed-next i q kind e = next C i q kind e
 

@@ -1,11 +1,11 @@
 -- THEOREM 3.12, of the sound columns' courses in a posting: what they output meets Definition 3.10.
-use mathlib.Core.Path.{_≡_, refl, sym, ap, subst, _∙_}
+use mathlib.Core.Path.{_≡_, refl, sym, ap, _∙_}
 use mathlib.Core.Bool.{Bool, true, false, cond}
 use mathlib.Core.List.{List, []}
 use mathlib.Core.Option.{Option, none, some}
 use Prim.Native.Nat.{ℕ, zero, suc, _≤_, _<_}
 use native.Mathlib.Omega.{arith}
-use borrow.Author.Tests.{eqb-true, eq-eqb, eqb-false, ne-eqb}
+use borrow.Author.Tests.{eqb-true, eq-eqb, eqb-false}
 use lib.Dec.{T, eqb}
 use lib.ListN.{length, getD, take}
 use Rattle.lists.specs.Lists.{inRow, rowsOf}
@@ -26,7 +26,8 @@ use Rattle.agreement.specs.declared.Column.{Column}
 use Rattle.agreement.specs.declared.Kind.the-variants.{Post}
 use Rattle.agreement.specs.Column.{freshColumn, freshIn, fits}
 use Rattle.agreement.specs.Parts.{withStage, withBytes, withAgreements, withReports, withGrade, withVote, withKept}
-use Rattle.agreement.specs.Rounds.{postingKind, kindIn, voteIn, voteAfter, voting, recast, message, postedBy, takenRecord, posted, goesOn, endsOn, hears}
+use Rattle.agreement.specs.Post.{postedBy, takenRecord, posted}
+use Rattle.agreement.specs.Rounds.{postingKind, kindIn, voteIn, voteAfter, voting, recast, message, endsOn, hears}
 use Rattle.agreement.specs.Calls.{inState, whenAsked, outcomeRefusal, ending, replyOf, outcome, gradeIn}
 use Rattle.agreement.specs.Gradecast.{Gradecast}
 use Rattle.agreement.specs.Course.{course}
@@ -106,12 +107,12 @@ module _ {s n m : ℕ} {H : ℕ → Bool} {held : ℕ → List ℕ} {inbox : ℕ
   took-first i = refl
 
   pub took-last : (i : ℕ) → state i 4 .bytes ≡ took i
-  unfolding took course kindIn postingKind hears goesOn voting recast withStage withAgreements withReports withGrade withVote
+  unfolding took course kindIn postingKind hears voting recast withStage withAgreements withReports withGrade withVote
   took-last i = refl
 
   -- the poster its own; every other column what it heard of the poster
   took-is : (i : ℕ) → took i ≡ cond (eqb i s) (part (held i) 0 32) (takenRecord m (λ k. inRow m (inbox i 1) s k blank))
-  unfolding took course freshIn freshColumn kindIn postingKind hears goesOn voting recast withStage withBytes withVote posted postedBy
+  unfolding took course freshIn freshColumn kindIn postingKind hears voting recast withStage withBytes withVote posted postedBy
   took-is i = go (eqb i s) refl
     where
       go : (b : Bool) → eqb i s ≡ b
@@ -161,7 +162,7 @@ module _ {s n m : ℕ} {H : ℕ → Bool} {held : ℕ → List ℕ} {inbox : ℕ
 
   -- the grade lasts
   pub grade-stays : (i : ℕ) → state i 5 .grade ≡ g i
-  unfolding course kindIn postingKind hears goesOn voting recast withStage withKept withVote
+  unfolding course kindIn postingKind hears voting recast withStage withKept withVote
   grade-stays i = refl
 
   -- a sound grade 2: all end on its record

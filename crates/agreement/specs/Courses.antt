@@ -2,7 +2,7 @@
 use mathlib.Core.Path.{_≡_, ap, _∙_, fun-ext}
 use mathlib.Core.Bool.{Bool}
 use mathlib.Core.List.{List}
-use Prim.Native.Nat.{ℕ, suc, _≤_, _<_}
+use Prim.Native.Nat.{ℕ, suc, _+_, _≤_, _<_}
 use Rattle.lists.specs.Lists.{rowsOf}
 use Rattle.block.specs.Block.{part}
 use Rattle.sizes.specs.declared.Protocol.{Protocol}
@@ -11,6 +11,7 @@ use Rattle.messages.specs.Messages.{said}
 use Rattle.messages.specs.Wall.{Wall, Sound, Delivered}
 use Rattle.messages.specs.Delivery.{delivered-as}
 use Rattle.codeword.specs.Codeword.{Held}
+use Rattle.agreement.specs.declared.Stage.the-variants.{Speak}
 use Rattle.agreement.specs.declared.Column.{Column}
 use Rattle.agreement.specs.declared.Kind.{Kind}
 use Rattle.agreement.specs.Rounds.{kindIn, voting, recast, message, outgoing, hears}
@@ -48,10 +49,10 @@ module _ {p : Protocol} {n m : ℕ} {H : ℕ → Bool} {held : ℕ → List ℕ}
 
   -- a round of a known kind
   pub next : (i q : ℕ) (kind : Kind) → kindIn p n (suc q) ≡ kind
-      → state i (suc q) ≡ recast p (state i q .vote) (hears kind (suc q) (voting p (listening p n m i (held i) (inbox i) q)) (inbox i (suc q)))
+      → state i (suc q) ≡ recast p (state i q .vote) (hears kind (Speak (suc q + 1)) (voting p (listening p n m i (held i) (inbox i) q)) (inbox i (suc q)))
   unfolding course
   next i q kind e =
-      ap (λ (k : Kind). recast p (state i q .vote) (hears k (suc q) (voting p (listening p n m i (held i) (inbox i) q)) (inbox i (suc q)))) e
+      ap (λ (k : Kind). recast p (state i q .vote) (hears k (Speak (suc q + 1)) (voting p (listening p n m i (held i) (inbox i) q)) (inbox i (suc q)))) e
 
   -- and what is delivered in it, where column j's messages of w values are told otherwise
   pub sent : (q w : ℕ) (kind : Kind) (told : ℕ → ℕ → List ℕ) → q < roundsIn p n → kindIn p n (suc q) ≡ kind → valuesIn p n m (suc q) ≡ w

@@ -13,7 +13,7 @@ use Rattle.lists.specs.Lists.{count}
 use Rattle.lists.specs.Tests.{eq→eqb, conj, and-left, and-both}
 use Rattle.lists.specs.Count.{mono, find, Found, count-pos}
 use Rattle.sizes.specs.declared.Protocol.the-variants.{Agreement}
-use Rattle.sizes.specs.Sizes.{faults, rounds}
+use Rattle.sizes.specs.Sizes.{faults}
 use Rattle.messages.specs.Wall.{Sound, holds}
 use Rattle.king.specs.King.{phases}
 use Rattle.king.specs.Phases.{sound-king, agreement, validity}

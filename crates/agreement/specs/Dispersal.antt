@@ -1,6 +1,6 @@
 -- Three rounds of the courses that are an exchange, first and second reports are a run of graded dispersal, so Theorem 3.3 speaks of the
 -- columns' states.
-use mathlib.Core.Path.{_≡_, refl, sym, ap, subst, _∙_, fun-ext}
+use mathlib.Core.Path.{_≡_, sym, ap, subst, _∙_, fun-ext}
 use mathlib.Core.Bool.{Bool}
 use mathlib.Core.List.{List, [], _∷_}
 use Prim.Native.Nat.{ℕ, suc, _*_, _<_}
@@ -17,7 +17,7 @@ use Rattle.dispersal.specs.Calls.{agreementsOf, firstOf, reportsOf, secondOf, l
 use Rattle.agreement.specs.declared.Column.{Column}
 use Rattle.agreement.specs.declared.Kind.the-variants.{Exchange, FirstReport, SecondReport}
 use Rattle.agreement.specs.Parts.{withStage, withAgreements, withReports, withGrade, withVote}
-use Rattle.agreement.specs.Rounds.{kindIn, voting, recast, message, received, graded, goesOn, hears}
+use Rattle.agreement.specs.Rounds.{kindIn, voting, recast, message, received, graded, hears}
 use Rattle.agreement.specs.Courses.{Courses, state, is, next, sent, of}
 
 -- q rounds are over, and three of dispersal follow
@@ -48,24 +48,24 @@ module _ {p : Protocol} {n m : ℕ} {H : ℕ → Bool} {held : ℕ → List ℕ}
   reported = reportsOf n m places (of C q₁) (of C q₂) (of C q₃)
 
   agreements₁ : (i : ℕ) → state C i q₁ .agreements ≡ agreed i
-  unfolding q₁ hears goesOn voting recast withStage withAgreements withVote
+  unfolding q₁ hears voting recast withStage withAgreements withVote
   agreements₁ i =
       let a = is C i q (omega (arith, D .many)) in
       ap (λ (c : Column). c .agreements) (next C i q Exchange (D .kind₁)) ∙ rw (a .n-is, a .m-is, a .own-is, holding i)
 
   agreements₂ : (i : ℕ) → state C i q₂ .agreements ≡ agreed i
-  unfolding q₁ q₂ hears goesOn voting recast withStage withReports withVote
+  unfolding q₁ q₂ hears voting recast withStage withReports withVote
   agreements₂ i = ap (λ (c : Column). c .agreements) (next C i q₁ FirstReport (D .kind₂)) ∙ agreements₁ i
 
   reports₂ : (i : ℕ) → state C i q₂ .reports ≡ reported i
-  unfolding q₁ q₂ hears goesOn voting recast withStage withReports withVote received message
+  unfolding q₁ q₂ hears voting recast withStage withReports withVote received message
   reports₂ i =
       let a = is C i q₁ (omega (arith, D .many)) in
       ap (λ (c : Column). c .reports) (next C i q₁ FirstReport (D .kind₂)) ∙ rw (a .n-is, a .own-is, agreements₁ i)
 
   -- the grade with which a column leaves is the one that Protocol 3.2 gives
   grade₃ : (i : ℕ) → state C i q₃ .grade ≡ leavesWith n m places (of C q₁) (of C q₂) (of C q₃) i
-  unfolding q₂ q₃ hears goesOn voting recast withStage withGrade withVote graded received message
+  unfolding q₂ q₃ hears voting recast withStage withGrade withVote graded received message
   grade₃ i =
       let a = is C i q₂ (omega (arith, D .many)) in
       ap (λ (c : Column). c .grade) (next C i q₂ SecondReport (D .kind₃)) ∙ rw (a .n-is, a .own-is, agreements₂ i, reports₂ i)

@@ -1,12 +1,12 @@
 -- Two rounds of the courses that are points and kept points are a run of data dissemination, so Theorem 3.9 speaks of what the columns
 -- end on.
-use mathlib.Core.Path.{_≡_, refl, ap, subst, _∙_}
-use mathlib.Core.Bool.{Bool, true, _&&_}
+use mathlib.Core.Path.{_≡_, refl, ap, _∙_}
+use mathlib.Core.Bool.{Bool, true}
 use mathlib.Core.List.{List}
 use mathlib.Core.Option.{Option, none, some}
 use Prim.Native.Nat.{ℕ, suc, _≤_}
 use native.Mathlib.Omega.{arith}
-use lib.Dec.{T, eqb, leb, leb→le}
+use lib.Dec.{T, leb, leb→le}
 use Rattle.lists.specs.Lists.{count, same}
 use Rattle.lists.specs.Tests.{conj, and-both, by-contra}
 use Rattle.lists.specs.Entries.{same-eq, same-refl}
@@ -24,7 +24,7 @@ use Rattle.dissemination.specs.Calls.{keptOf, calls-consistent}
 use Rattle.agreement.specs.declared.Column.{Column}
 use Rattle.agreement.specs.declared.Kind.the-variants.{Points, KeptPoints}
 use Rattle.agreement.specs.Parts.{withStage, withKept, withVote, withBytes}
-use Rattle.agreement.specs.Rounds.{kindIn, voteIn, voteAfter, voting, recast, votesOne, spreads, message, outcomeOf, endsOn, goesOn, hears}
+use Rattle.agreement.specs.Rounds.{kindIn, voteIn, voteAfter, voting, recast, votesOne, spreads, message, outcomeOf, endsOn, hears}
 use Rattle.agreement.specs.Course.{listening}
 use Rattle.agreement.specs.Courses.{Courses, state, is, next, sent, of}
 
@@ -46,14 +46,14 @@ module _ {p : Protocol} {n m : ℕ} {H : ℕ → Bool} {held : ℕ → List ℕ}
   keptBy = keptOf n m has places (of C (suc q)) (of C (suc (suc q)))
 
   kept-is : (i : ℕ) → state C i (suc q) .kept ≡ keptBy i
-  unfolding hears goesOn voting recast withStage withKept withVote spreads votesOne
+  unfolding hears voting recast withStage withKept withVote spreads votesOne
   kept-is i =
       let a = is C i q (omega (arith, D .last)) in
       ap (λ (c : Column). c .kept) (next C i q Points (D .kind₁)) ∙ rw (a .n-is, a .m-is, a .own-is, holding i)
 
   -- the vote that the rounds read stays as it is
   vote-stays : (i : ℕ) → voteIn p (state C i (suc q) .vote) ≡ voteIn p (state C i q .vote)
-  unfolding hears goesOn voting recast withStage withKept withVote voteIn voteAfter
+  unfolding hears voting recast withStage withKept withVote voteIn voteAfter
   vote-stays i = ap (λ (c : Column). voteIn p (c .vote)) (next C i q Points (D .kind₁)) ∙ go p (state C i q .vote)
     where
       go : (p : Protocol) (v : ℕ) → voteIn p (voteAfter p v (voteIn p v)) ≡ voteIn p v

@@ -28,7 +28,7 @@ use Rattle.dispersal.specs.Dispersal.{exchange, agreesIn, agreesWith, agreement
 use Rattle.dissemination.specs.Dissemination.{spoken, pointsIn, points, least, often, keptPoint, keptAt, keptPoints, pointAt, blockOf, there, coefficient, isByte, isBlock, byteAt, recordOf}
 use Rattle.agreement.specs.Column.{freshColumn, freshIn, namesFit, stageFits, byteFits, flagFits, pointFits, numbersFit, arraysFit, fits}
 use Rattle.agreement.specs.Parts.{withStage, withBytes, withProposal, withAgreements, withReports, withGrade, withVote, withKept}
-use Rattle.agreement.specs.Rounds.{kingRound, laterRound, kindOf, kindIn, voteIn, voteAfter, voting, recast, listens, votesOne, spreads, message, outgoing, received, kingSaid, graded, firstVote, resettled, outcomeOf, endsOn, goesOn, hears}
+use Rattle.agreement.specs.Rounds.{kingRound, laterRound, kindOf, kindIn, voteIn, voteAfter, voting, recast, listens, votesOne, spreads, message, outgoing, received, kingSaid, graded, firstVote, resettled, outcomeOf, endsOn, hears}
 use Rattle.agreement.specs.Calls.{refusalOf, answerOf, answered, orElse, freshRefusal, fresh, roundOf, whenSpeaking, whenListening, whenAsked, inState, inRound, speakRefusal, speak, written, listenRefusal, listen, outcomeRefusal, ending, replyOf, shown, outcome, refusalIn, recordIn}
 use Rattle.agreement.specs.Lists.{Speaks, Listens, Asks, Item, leading, extra, callOf, refusalAt, after, final, afterLeading, leadingCalls, turns, isAsking, idle, extrasIdle, wrote, made, Run, Answers}
 use Rattle.agreement.specs.Claim.{leaves, Demand}
@@ -130,7 +130,7 @@ record Computed : Type 0 where
   ends-on-41 : Answers Agreement 1 (final Agreement (made Agreement 4 1 held 3) (lists 3)) (some (65 ∷ []))
 
 computed : Computed
-unfolding noisy toAll final callOf afterLeading leadingCalls turns extrasIdle wrote refusalIn recordIn count all listOf rowsOf part value faults degree blocks rounds values outside refusalOfSizes readPoint readReport readBit said from refusal unlessRefused heard heardFrom heardOfAll times point valuesAt decoded found seek through under slopes decodedAs polynomialOf phases bits chosen proposal settled firm word crowned exchange agreesIn agreesWith agreementAt agreements agrees firstQuorum firstReport reportAt reports reported both secondQuorum secondReport readReports grade spoken pointsIn points least often keptPoint keptAt keptPoints pointAt blockOf there coefficient isByte isBlock byteAt recordOf freshColumn stageFits byteFits flagFits pointFits numbersFit arraysFit fits withStage withBytes withProposal withAgreements withReports withGrade withVote withKept kingRound laterRound kindOf votesOne spreads message outgoing received kingSaid graded firstVote resettled outcomeOf endsOn goesOn hears refusalOf answerOf answered freshRefusal fresh roundOf whenSpeaking whenListening whenAsked inState inRound speakRefusal speak written listenRefusal listen outcomeRefusal ending replyOf shown outcome refusalAt after isAsking idle made roundsIn valuesIn beside freshIn namesFit kindIn voteIn voteAfter voting recast listens orElse
+unfolding noisy toAll final callOf afterLeading leadingCalls turns extrasIdle wrote refusalIn recordIn count all listOf rowsOf part value faults degree blocks rounds values outside refusalOfSizes readPoint readReport readBit said from refusal unlessRefused heard heardFrom heardOfAll times point valuesAt decoded found seek through under slopes decodedAs polynomialOf phases bits chosen proposal settled firm word crowned exchange agreesIn agreesWith agreementAt agreements agrees firstQuorum firstReport reportAt reports reported both secondQuorum secondReport readReports grade spoken pointsIn points least often keptPoint keptAt keptPoints pointAt blockOf there coefficient isByte isBlock byteAt recordOf freshColumn stageFits byteFits flagFits pointFits numbersFit arraysFit fits withStage withBytes withProposal withAgreements withReports withGrade withVote withKept kingRound laterRound kindOf votesOne spreads message outgoing received kingSaid graded firstVote resettled outcomeOf endsOn hears refusalOf answerOf answered freshRefusal fresh roundOf whenSpeaking whenListening whenAsked inState inRound speakRefusal speak written listenRefusal listen outcomeRefusal ending replyOf shown outcome refusalAt after isAsking idle made roundsIn valuesIn beside freshIn namesFit kindIn voteIn voteAfter voting recast listens orElse
 computed =
     record {
       plays-1 = record { in-turn = refl; extras = tt; wrote-slices = refl };

@@ -6,7 +6,7 @@ use Prim.Native.Nat.{ℕ, suc, _+_, _-_, _*_, _/_, _%_, _≤_, _<_}
 use native.Mathlib.Nat.{eq-or-lt-of-le}
 use native.Mathlib.Omega.{arith}
 use borrow.Author.Tests.{ltb-false, lt-ltb, le-ltb, eqb-false, eq-eqb, ne-eqb}
-use lib.Dec.{eqb, ltb}
+use lib.Dec.{eqb, ltb, leb}
 use Rattle.sizes.specs.declared.Protocol.{Protocol}
 use Rattle.sizes.specs.declared.Protocol.the-variants.{Agreement, Posting}
 use Rattle.sizes.specs.Sizes.{rounds, roundsIn}
@@ -66,36 +66,31 @@ module _ (n round : ℕ) where
       let z : round - 4 ≡ 3 * phases n + 1 = omega arith in
       past-three (omega arith) _ ∙ simp (z, le-ltb (3 * phases n + 1) (3 * phases n) (omega arith), ne-eqb (3 * phases n + 1) (3 * phases n) (omega arith))
 
--- a round of the kind ends the run
-unfoldable pub ends : Kind → Bool
-ends Exchange = false
-ends FirstReport = false
-ends SecondReport = false
-ends Votes = false
-ends Proposals = false
-ends (King king) = false
-ends Points = false
-ends KeptPoints = true
-ends (Post s) = false
+-- what a round of the kind does to the record: 0 nothing, 1 it takes another, 2 it takes the one that was decoded, and ends the run
+unfoldable pub touches : Kind → ℕ
+touches Exchange = 0
+touches FirstReport = 0
+touches SecondReport = 0
+touches Votes = 0
+touches Proposals = 0
+touches (King king) = 0
+touches Points = 0
+touches KeptPoints = 2
+touches (Post s) = 1
 
--- it may change the record
+-- it ends the run, and it may change the record
+unfoldable pub ends : Kind → Bool
+ends kind = eqb (touches kind) 2
+
 unfoldable pub rewrites : Kind → Bool
-rewrites Exchange = false
-rewrites FirstReport = false
-rewrites SecondReport = false
-rewrites Votes = false
-rewrites Proposals = false
-rewrites (King king) = false
-rewrites Points = false
-rewrites KeptPoints = true
-rewrites (Post s) = true
+rewrites kind = leb 1 (touches kind)
 
 abbrev Keeps : Kind → Type 0
 Keeps kind = (ends kind ≡ false) × (rewrites kind ≡ false)
 
 -- in an agreement only the last round does
 pub keeps-on : (n round : ℕ) → round ≤ 3 * phases n + 4 → Keeps (kindOf n round)
-unfolding kindOf laterRound kingRound ends rewrites
+unfolding kindOf laterRound kingRound touches ends rewrites
 keeps-on n round h = go (eqb round 1) (eqb round 2) (eqb round 3)
   where
     q : ℕ
@@ -119,7 +114,7 @@ keeps-on n round h = go (eqb round 1) (eqb round 2) (eqb round 3)
 
 -- every run goes on before its last round
 pub goes-on : (p : Protocol) (n round : ℕ) → 1 ≤ round → round < roundsIn p n → ends (kindIn p n round) ≡ false
-unfolding kindIn roundsIn postingKind ends
+unfolding kindIn roundsIn postingKind touches ends
 goes-on Agreement n round l h = keeps-on n round (omega (arith, rounds-of n)) .0
 goes-on (Posting s) n round l h = go (eqb round 1) (eqb round 2) (eqb round 3) (eqb round 4) (eqb round 5) refl refl refl refl refl
   where
@@ -135,7 +130,7 @@ goes-on (Posting s) n round l h = go (eqb round 1) (eqb round 2) (eqb round 3) (
 
 -- and ends with it
 last-ends : (p : Protocol) (n round : ℕ) → round ≡ roundsIn p n → ends (kindIn p n round) ≡ true
-unfolding kindIn roundsIn postingKind ends
+unfolding kindIn roundsIn postingKind touches ends
 last-ends Agreement n round e = ap ends (kind-kept n round (e ∙ rounds-of n))
 last-ends (Posting s) n round e = ap (λ (r : ℕ). ends (postingKind s r)) e
 

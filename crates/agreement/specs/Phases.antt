@@ -2,7 +2,7 @@
 use mathlib.Core.Path.{_≡_, refl, sym, ap, _∙_, subst, fun-ext}
 use mathlib.Core.Bool.{Bool}
 use mathlib.Core.List.{List, [], _∷_}
-use Prim.Native.Nat.{ℕ, suc, _*_, _<_}
+use Prim.Native.Nat.{ℕ, suc, _<_}
 use native.Mathlib.Omega.{arith}
 use Rattle.sizes.specs.Laws.{values-one}
 use Rattle.messages.specs.Messages.{toAll}
@@ -15,7 +15,7 @@ use Rattle.king.specs.Calls as K
 use Rattle.agreement.specs.declared.Column.{Column}
 use Rattle.agreement.specs.declared.Kind.the-variants.{Votes, Proposals, King}
 use Rattle.agreement.specs.Parts.{withStage, withProposal, withGrade, withVote}
-use Rattle.agreement.specs.Rounds.{kindOf, kindIn, voteIn, voteAfter, voting, recast, message, received, kingSaid, firstVote, resettled, goesOn, hears}
+use Rattle.agreement.specs.Rounds.{kindOf, kindIn, voteIn, voteAfter, voting, recast, message, received, kingSaid, firstVote, resettled, hears}
 use Rattle.agreement.specs.Kinds.{rounds-of, kind-votes, kind-proposals, kind-king}
 use Rattle.agreement.specs.Course.{Is, course, listening}
 use Rattle.agreement.specs.Courses.{Courses, state, is, of}
@@ -27,7 +27,7 @@ module _ {n m : ℕ} {H : ℕ → Bool} {held : ℕ → List ℕ} {inbox : ℕ �
   votes p i = state C i (base p) .vote
 
   pub first-vote : (i : ℕ) → votes 0 i ≡ firstVote (state C i 3 .grade)
-  unfolding course kindIn kindOf voting recast voteIn voteAfter hears goesOn withStage withGrade withVote
+  unfolding course kindIn kindOf voting recast voteIn voteAfter hears withStage withGrade withVote
   first-vote i = refl
 
   -- it is the column that it was
@@ -71,13 +71,13 @@ module _ {n m : ℕ} {H : ℕ → Bool} {held : ℕ → List ℕ} {inbox : ℕ �
     crowns = K.crownedOf n (suc p) (votes p) (of C r₁) (of C r₂) (of C r₃)
 
     proposal-is : (i : ℕ) → state C i r₁ .proposal ≡ proposed i
-    unfolding r₁ hears goesOn withStage withProposal received message
+    unfolding r₁ hears withStage withProposal received message
     proposal-is i =
         let a = same-column i (base p) (omega (arith, rounds-of n)) in
         ap (λ (c : Column). c .proposal) (agreed-next C i (base p) Votes is-votes) ∙ rw (a .n-is, a .own-is)
 
     vote-kept : (i : ℕ) → state C i r₁ .vote ≡ votes p i
-    unfolding r₁ hears goesOn withStage withProposal
+    unfolding r₁ hears withStage withProposal
     vote-kept i = ap (λ (c : Column). c .vote) (agreed-next C i (base p) Votes is-votes)
 
     -- the proposals that column i hears
@@ -87,13 +87,13 @@ module _ {n m : ℕ} {H : ℕ → Bool} {held : ℕ → List ℕ} {inbox : ℕ �
         let a = same-column i r₁ (omega (arith, rounds-of n)) in rw (a .n-is, a .own-is, proposal-is i)
 
     settled-is : (i : ℕ) → state C i r₂ .vote ≡ settles i
-    unfolding r₁ r₂ hears goesOn withStage withVote resettled
+    unfolding r₁ r₂ hears withStage withVote resettled
     settled-is i =
         let a = same-column i r₁ (omega (arith, rounds-of n)) in
         ap (λ (c : Column). c .vote) (agreed-next C i r₁ Proposals is-proposals) ∙ rw (heard-is i, a .n-is, vote-kept i)
 
     firm-is : (i : ℕ) → state C i r₂ .firm ≡ firm n (proposals i) (settles i)
-    unfolding r₁ r₂ hears goesOn withStage withVote resettled
+    unfolding r₁ r₂ hears withStage withVote resettled
     firm-is i =
         let a = same-column i r₁ (omega (arith, rounds-of n)) in
         ap (λ (c : Column). c .firm) (agreed-next C i r₁ Proposals is-proposals) ∙ rw (heard-is i, a .n-is, vote-kept i)
@@ -105,7 +105,7 @@ module _ {n m : ℕ} {H : ℕ → Bool} {held : ℕ → List ℕ} {inbox : ℕ �
         let a = same-column i r₂ (omega (arith, rounds-of n)) in rw (settled-is i, a .own-is)
 
     crowned-is : (i : ℕ) → state C i r₃ .vote ≡ crowns i
-    unfolding r₂ r₃ hears goesOn withStage withVote
+    unfolding r₂ r₃ hears withStage withVote
     crowned-is i =
         ap (λ (c : Column). c .vote) (agreed-next C i r₂ (King (suc p)) is-king) ∙ ap (crowned (state C i r₂ .firm) (state C i r₂ .vote)) (word-is i)
         ∙ rw (firm-is i, settled-is i)

@@ -34,8 +34,9 @@ use Rattle.agreement.specs.declared.Kind.{Kind}
 use Rattle.agreement.specs.declared.Kind.the-variants.{Exchange, FirstReport, SecondReport, Votes, Proposals, King, Points, KeptPoints, Post}
 use Rattle.agreement.specs.Column.{freshColumn, freshIn, namesFit, stageFits, byteFits, flagFits, pointFits, numbersFit, arraysFit, fits}
 use Rattle.agreement.specs.Parts.{withStage, withBytes, withProposal, withAgreements, withReports, withGrade, withVote, withKept}
-use Rattle.agreement.specs.Rounds.{votesOne, spreads, received, kingSaid, graded, firstVote, resettled, outcomeOf, endsOn, postedBy, sentByte, postedByte, takenRecord, posted, goesOn, hears, kindIn, voteIn, voteAfter, voting, recast}
-use Rattle.agreement.specs.Kinds.{ends, before-last}
+use Rattle.agreement.specs.Post.{postedBy, sentByte, postedByte, takenRecord, posted}
+use Rattle.agreement.specs.Rounds.{votesOne, spreads, received, kingSaid, graded, firstVote, resettled, outcomeOf, endsOn, hears, kindIn, voteIn, voteAfter, voting, recast}
+use Rattle.agreement.specs.Kinds.{touches, ends, before-last}
 use Rattle.agreement.specs.Course.{course, listening, course-is}
 
 ruleset conjunction = (and-left, and-right, and-both)
@@ -130,34 +131,29 @@ unfolding endsOn stageFits withBytes
 ends-fits p c h none z = with-stage p c h (Ended Nothing) tt
 ends-fits p c h (some r) z = with-stage p (withBytes r c) (with-bytes p c h r (bytes-fit (c .m) r (λ p. z r p refl))) (Ended Record) tt
 
--- one that goes on
-goes-fits : (p : Protocol) (round : ℕ) (c : Column) → round < roundsIn p (c .n) → T (fits p c) → T (fits p (goesOn round c))
-unfolding goesOn stageFits
-goes-fits p round c l h = with-stage p c h (Speak (round + 1)) (round-fits (roundsIn p (c .n)) (round + 1) (omega arith) (omega arith))
-
-hears-fits : (p : Protocol) (kind : Kind) (round : ℕ) (c : Column) (inbox : List ℕ) → (ends kind ≡ false → round < roundsIn p (c .n)) → T (fits p c) → T (fits p (hears kind round c inbox))
-unfolding hears withProposal withAgreements withReports withGrade withVote withKept withBytes graded resettled outcomeOf posted takenRecord postedByte ends
-hears-fits p Exchange round c inbox l h =
-    goes-fits p round _ (l refl) (with-agreements p c h _ (flags-fit (c .n) _ (agreements-past (c .n) (c .m) (c .own) (c .bytes) inbox)))
-hears-fits p FirstReport round c inbox l h = goes-fits p round _ (l refl) (with-reports p c h _ (flags-fit (c .n) _ (reports-past (c .n) (received FirstReport c inbox))))
-hears-fits p SecondReport round c inbox l h =
+hears-fits : (p : Protocol) (kind : Kind) (next : Stage) (c : Column) (inbox : List ℕ) → (ends kind ≡ false → T (stageFits (roundsIn p (c .n)) next)) → T (fits p c) → T (fits p (hears kind next c inbox))
+unfolding hears withProposal withAgreements withReports withGrade withVote withKept withBytes graded resettled outcomeOf posted takenRecord postedByte touches ends
+hears-fits p Exchange next c inbox l h =
+    with-stage p _ (with-agreements p c h _ (flags-fit (c .n) _ (agreements-past (c .n) (c .m) (c .own) (c .bytes) inbox))) next (l refl)
+hears-fits p FirstReport next c inbox l h = with-stage p _ (with-reports p c h _ (flags-fit (c .n) _ (reports-past (c .n) (received FirstReport c inbox)))) next (l refl)
+hears-fits p SecondReport next c inbox l h =
     let small : graded c inbox < 3 = grade-lt (c .n) (c .own) (agrees (c .agreements)) (reported (c .reports)) (received SecondReport c inbox) in
-    goes-fits p round _ (l refl) (with-grade p _ (with-vote p c h (firstVote (graded c inbox)) (c .firm) (first-fits (graded c inbox) small)) _ (lt→ltb (graded c inbox) 3 small))
-hears-fits p Votes round c inbox l h = goes-fits p round _ (l refl) (with-proposal p c h _ (eq→eqb _ _ (proposal-reads (c .n) (received Votes c inbox))))
-hears-fits p Proposals round c inbox l h =
-    goes-fits p round _ (l refl) (with-vote p c h _ _ (lt→ltb (resettled c inbox) 2 (settled-bit (c .n) (received Proposals c inbox) (c .vote) (ltb→lt (c .vote) 2 (vote-fits p c h)))))
-hears-fits p (King king) round c inbox l h =
+    with-stage p _ (with-grade p _ (with-vote p c h (firstVote (graded c inbox)) (c .firm) (first-fits (graded c inbox) small)) _ (lt→ltb (graded c inbox) 3 small)) next (l refl)
+hears-fits p Votes next c inbox l h = with-stage p _ (with-proposal p c h _ (eq→eqb _ _ (proposal-reads (c .n) (received Votes c inbox)))) next (l refl)
+hears-fits p Proposals next c inbox l h =
+    with-stage p _ (with-vote p c h _ _ (lt→ltb (resettled c inbox) 2 (settled-bit (c .n) (received Proposals c inbox) (c .vote) (ltb→lt (c .vote) 2 (vote-fits p c h))))) next (l refl)
+hears-fits p (King king) next c inbox l h =
     let vote : ℕ = crowned (c .firm) (c .vote) (kingSaid king c inbox) in
     let small : vote ≤ 1 = crowned-bit (c .firm) (c .vote) (kingSaid king c inbox) (omega (arith, ltb→lt (c .vote) 2 (vote-fits p c h))) in
-    goes-fits p round _ (l refl) (with-vote p c h vote (c .firm) (lt→ltb vote 2 (omega arith)))
-hears-fits p Points round c inbox l h =
-    goes-fits p round _ (l refl) (with-kept p c h _ (points-fit (blocks (c .n) (c .m)) _ (keptPoints-read (c .n) (c .m) (c .own) (spreads c) (c .bytes) inbox) (keptPoints-past (c .n) (c .m) (c .own) (spreads c) (c .bytes) inbox)))
-hears-fits p KeptPoints round c inbox l h = ends-fits p c h (outcomeOf c inbox) (decoded-past (votesOne c) _)
+    with-stage p _ (with-vote p c h vote (c .firm) (lt→ltb vote 2 (omega arith))) next (l refl)
+hears-fits p Points next c inbox l h =
+    with-stage p _ (with-kept p c h _ (points-fit (blocks (c .n) (c .m)) _ (keptPoints-read (c .n) (c .m) (c .own) (spreads c) (c .bytes) inbox) (keptPoints-past (c .n) (c .m) (c .own) (spreads c) (c .bytes) inbox))) next (l refl)
+hears-fits p KeptPoints next c inbox l h = ends-fits p c h (outcomeOf c inbox) (decoded-past (votesOne c) _)
   where
     decoded-past : (b : Bool) (received : ℕ → ℕ → ℕ) (r : List ℕ) (p : ℕ) → _≡_ {A = Option (List ℕ)} (cond b (recordOf (c .n) (c .m) received) none) (some r) → c .m ≤ p → p < 32 → getD r p 0 ≡ 0
     decoded-past true received r p e u v = record-past (c .n) (c .m) received r p e u v
     decoded-past false received r p e u v = let z : _≡_ {A = ℕ} 0 1 = cc in absurd (omega arith)
-hears-fits p (Post s) round c inbox l h = goes-fits p round _ (l refl) (with-bytes p c h _ (either Fits (eqb (c .own) s) _ _ (bytes-were p c h) (either Fits (all (sentByte (postedBy s c inbox)) (c .m)) _ _ sent-fits zeros-fit)))
+hears-fits p (Post s) next c inbox l h = with-stage p _ (with-bytes p c h _ (either Fits (eqb (c .own) s) _ _ (bytes-were p c h) (either Fits (all (sentByte (postedBy s c inbox)) (c .m)) _ _ sent-fits zeros-fit))) next (l refl)
   where
     Fits : List ℕ → Type 0
     Fits bytes = T (all (byteFits (c .m) bytes) 32)
@@ -222,10 +218,10 @@ module _ (p : Protocol) (n m own : ℕ) (bytes : List ℕ) (inbox : ℕ → List
       with-stage p (course p n m own bytes inbox q) h (Listen (suc q)) (rw (course-is p n m own bytes inbox q l .0 .n-is) (round-fits (roundsIn p n) (suc q) (omega arith) (omega arith)))
 
   pub course-fits : (q : ℕ) → q ≤ roundsIn p n → T (fits p (course p n m own bytes inbox q))
-  unfolding course withStage voting withVote
+  unfolding course withStage stageFits voting withVote
   course-fits zero l = fresh-in-fits p n m own bytes accepted poster full
   course-fits (suc q) l =
       let before = course-fits q (omega arith) in
       recast-fits p (course p n m own bytes inbox q .vote) _ (vote-fits p (course p n m own bytes inbox q) before)
-      (hears-fits p (kindIn p n (suc q)) (suc q) (voting p (listening p n m own bytes inbox q)) (inbox (suc q)) (λ e.
-      rw (course-is p n m own bytes inbox q (omega arith) .0 .n-is) (before-last p n (suc q) l e)) (voting-fits p (listening p n m own bytes inbox q) (listening-fits q l before)))
+      (hears-fits p (kindIn p n (suc q)) (Speak (suc q + 1)) (voting p (listening p n m own bytes inbox q)) (inbox (suc q)) (λ e.
+      rw (course-is p n m own bytes inbox q (omega arith) .0 .n-is) (round-fits (roundsIn p n) (suc q + 1) (omega arith) (omega (arith, before-last p n (suc q) l e)))) (voting-fits p (listening p n m own bytes inbox q) (listening-fits q l before)))

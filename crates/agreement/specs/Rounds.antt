@@ -5,21 +5,21 @@ use mathlib.Core.List.{List, [], _∷_}
 use mathlib.Core.Option.{Option, none, some}
 use Prim.Native.Nat.{ℕ, _+_, _-_, _*_, _/_, _%_}
 use lib.Dec.{eqb, ltb, leb}
-use lib.ListN.{replicate}
-use Rattle.lists.specs.Lists.{bit, all, listOf, rowsOf, inRow}
-use Rattle.field.specs.Field.{blank}
+use Rattle.lists.specs.Lists.{bit, rowsOf}
 use Rattle.sizes.specs.declared.Protocol.{Protocol}
 use Rattle.sizes.specs.declared.Protocol.the-variants.{Agreement, Posting}
 use Rattle.sizes.specs.Sizes.{blocks, valuesIn}
-use Rattle.messages.specs.Messages.{readByte, said, from, heard, heardOfAll}
+use Rattle.messages.specs.Messages.{said, from, heard, heardOfAll}
 use Rattle.king.specs.King.{phases, proposal, settled, firm, word, crowned}
 use Rattle.dispersal.specs.Dispersal.{exchange, agreements, agrees, firstReport, reports, reported, secondReport, grade}
 use Rattle.dissemination.specs.Dissemination.{spoken, points, pointsIn, keptPoints, recordOf}
 use Rattle.agreement.specs.declared.Outcome.the-variants.{Nothing, Record}
+use Rattle.agreement.specs.declared.Stage.{Stage}
 use Rattle.agreement.specs.declared.Stage.the-variants.{Speak, Ended}
 use Rattle.agreement.specs.declared.Column.{Column}
 use Rattle.agreement.specs.declared.Kind.{Kind}
 use Rattle.agreement.specs.declared.Kind.the-variants.{Exchange, FirstReport, SecondReport, Votes, Proposals, King, Points, KeptPoints, Post}
+use Rattle.agreement.specs.Post.{posted}
 use Rattle.agreement.specs.Parts.{withStage, withBytes, withProposal, withAgreements, withReports, withGrade, withVote, withKept}
 
 -- THE KINDS OF ROUNDS
@@ -125,42 +125,18 @@ unfoldable pub endsOn : Option (List ℕ) → Column → Column
 endsOn none c = withStage (Ended Nothing) c
 endsOn (some bytes) c = withStage (Ended Record) (withBytes bytes c)
 
--- the poster's message to column c, which has m values: "only the message of s is read"
-unfoldable pub postedBy : ℕ → Column → List ℕ → ℕ → ℕ
-postedBy s c inbox k = inRow (c .m) inbox s k blank
+-- what column c has become after it listened in a round of the kind; it goes on to the stage `next`, unless the round ends the run
+unfoldable pub hears : Kind → Stage → Column → List ℕ → Column
+hears Exchange next c inbox = withStage next (withAgreements (agreements (c .n) (c .m) (c .own) (c .bytes) inbox) c)
+hears FirstReport next c inbox = withStage next (withReports (reports (c .n) (received FirstReport c inbox)) c)
+hears SecondReport next c inbox = withStage next (withGrade (graded c inbox) (withVote (firstVote (graded c inbox)) (c .firm) c))
+hears Votes next c inbox = withStage next (withProposal (proposal (c .n) (received Votes c inbox)) c)
+hears Proposals next c inbox = withStage next (withVote (resettled c inbox) (firm (c .n) (received Proposals c inbox) (resettled c inbox)) c)
+hears (King king) next c inbox = withStage next (withVote (crowned (c .firm) (c .vote) (kingSaid king c inbox)) (c .firm) c)
+hears Points next c inbox = withStage next (withKept (keptPoints (c .n) (c .m) (c .own) (spreads c) (c .bytes) inbox) c)
+hears KeptPoints next c inbox = endsOn (outcomeOf c inbox) c
+hears (Post s) next c inbox = withStage next (withBytes (posted s c inbox) c)
 
--- value k of it is a byte
-unfoldable pub sentByte : (ℕ → ℕ) → ℕ → Bool
-sentByte sent k = ltb (readByte (sent k)) 256
-
--- byte p of a record of m bytes that was sent
-unfoldable pub postedByte : ℕ → (ℕ → ℕ) → ℕ → ℕ
-postedByte m sent p = cond (ltb p m && sentByte sent p) (sent p) 0
-
--- "A receiver that finds a value outside 0 to 255 takes a record of m zeros."
-unfoldable pub takenRecord : ℕ → (ℕ → ℕ) → List ℕ
-takenRecord m sent = cond (all (sentByte sent) m) (listOf (postedByte m sent) 32) (replicate 32 0)
-
--- the record after the poster spoke; the poster keeps its own
-unfoldable pub posted : ℕ → Column → List ℕ → List ℕ
-posted s c inbox = cond (eqb (c .own) s) (c .bytes) (takenRecord (c .m) (postedBy s c inbox))
-
--- the next round's turn to speak
-unfoldable pub goesOn : ℕ → Column → Column
-goesOn round c = withStage (Speak (round + 1)) c
-
--- what column c has become after it listened in a round, by the round's kind
-unfoldable pub hears : Kind → ℕ → Column → List ℕ → Column
-hears Exchange round c inbox = goesOn round (withAgreements (agreements (c .n) (c .m) (c .own) (c .bytes) inbox) c)
-hears FirstReport round c inbox = goesOn round (withReports (reports (c .n) (received FirstReport c inbox)) c)
-hears SecondReport round c inbox = goesOn round (withGrade (graded c inbox) (withVote (firstVote (graded c inbox)) (c .firm) c))
-hears Votes round c inbox = goesOn round (withProposal (proposal (c .n) (received Votes c inbox)) c)
-hears Proposals round c inbox = goesOn round (withVote (resettled c inbox) (firm (c .n) (received Proposals c inbox) (resettled c inbox)) c)
-hears (King king) round c inbox = goesOn round (withVote (crowned (c .firm) (c .vote) (kingSaid king c inbox)) (c .firm) c)
-hears Points round c inbox = goesOn round (withKept (keptPoints (c .n) (c .m) (c .own) (spreads c) (c .bytes) inbox) c)
-hears KeptPoints round c inbox = endsOn (outcomeOf c inbox) c
-hears (Post s) round c inbox = goesOn round (withBytes (posted s c inbox) c)
-
--- and in a round of the run
+-- and in a round of the run, after which it is to speak in the next
 unfoldable pub listens : Protocol → ℕ → Column → List ℕ → Column
-listens p round c inbox = recast p (c .vote) (hears (kindIn p (c .n) round) round (voting p c) inbox)
+listens p round c inbox = recast p (c .vote) (hears (kindIn p (c .n) round) (Speak (round + 1)) (voting p c) inbox)

@@ -1,5 +1,5 @@
 -- The record that a receiver takes in the first round of a posting.
-use mathlib.Core.Path.{_≡_, refl, sym, ap, _∙_}
+use mathlib.Core.Path.{_≡_, refl, sym, _∙_}
 use mathlib.Core.Bool.{Bool, true, false, cond, _&&_}
 use mathlib.Core.List.{List}
 use Prim.Native.Nat.{ℕ, _≤_, _<_}
@@ -7,15 +7,15 @@ use native.Mathlib.Omega.{arith}
 use native.Mathlib.Decide.{decLt}
 use borrow.Author.Tests.{lt-ltb, le-ltb, ltb-true}
 use lib.Dec.{T, ltb, lt→ltb}
-use lib.ListN.{length, getD, replicate, length-replicate, getD-replicate, List·getD-eq-default}
+use lib.ListN.{getD, replicate, length-replicate, getD-replicate, List·getD-eq-default}
 use lib.Seq.{ext-getD}
-use Rattle.lists.specs.Lists.{all, Below, listOf}
+use Rattle.lists.specs.Lists.{all, listOf}
 use Rattle.lists.specs.Tests.{is-true}
 use Rattle.lists.specs.Entries.{each-all, length-listOf, getD-listOf, getD-within, below-listOf}
 use Rattle.field.specs.Field.{blank}
 use Rattle.messages.specs.Messages.{readByte}
 use Rattle.codeword.specs.Codeword.{Held}
-use Rattle.agreement.specs.Rounds.{sentByte, postedByte, takenRecord}
+use Rattle.agreement.specs.Post.{sentByte, postedByte, takenRecord}
 
 -- a byte is one where it was read as one
 byte-lt : (m : ℕ) (sent : ℕ → ℕ) (p : ℕ) → postedByte m sent p < 256

@@ -10,6 +10,7 @@ use Rattle.lists.specs.Lists.{bit}
 use Rattle.lists.specs.Tests.{conj, and-both, eq→eqb}
 use Rattle.sizes.specs.declared.Protocol.{Protocol}
 use Rattle.sizes.specs.Sizes.{roundsIn, valuesIn, refusal as refusalOfSizes, beside}
+use Rattle.agreement.specs.declared.Stage.the-variants.{Speak}
 use Rattle.agreement.specs.declared.Column.{Column}
 use Rattle.agreement.specs.Parts.{withStage}
 use Rattle.agreement.specs.Rounds.{kindIn, outgoing, listens, voting, recast, hears}
@@ -89,8 +90,8 @@ module _ (p : Protocol) (n m own : ℕ) (bytes : List ℕ) (inbox : ℕ → List
         let (is, stage) = course-is p n m own bytes inbox q l in
         let (done, next) = listened p (state true q) (suc q) (listening-fits p n m own bytes inbox (A .accepted) (A .poster) (A .full) q l (course-fits p n m own bytes inbox (A .accepted) (A .poster) (A .full) q (omega arith))) x refl (rw (is .n-is, is .m-is) (ap length e ∙ A .inbox-length (suc q) (omega arith) l)) in (
           done,
-          next ∙ ap (λ (y : ℕ). recast p (at q .vote) (hears (kindIn p y (suc q)) (suc q) (voting p (state true q)) x)) (is .n-is)
-              ∙ ap (λ (x : List ℕ). recast p (at q .vote) (hears (kindIn p n (suc q)) (suc q) (voting p (state true q)) x)) e,
+          next ∙ ap (λ (y : ℕ). recast p (at q .vote) (hears (kindIn p y (suc q)) (Speak (suc q + 1)) (voting p (state true q)) x)) (is .n-is)
+              ∙ ap (λ (x : List ℕ). recast p (at q .vote) (hears (kindIn p n (suc q)) (Speak (suc q + 1)) (voting p (state true q)) x)) e,
         )
 
     -- a leading call more in front

@@ -2,7 +2,7 @@
 use mathlib.Core.Path.{_≡_, refl, sym, ap, _∙_}
 use mathlib.Core.Bool.{Bool, true, false, cond, not}
 use mathlib.Core.List.{List}
-use Prim.Native.Nat.{ℕ, _*_, _≤_}
+use Prim.Native.Nat.{ℕ, _+_, _*_, _≤_}
 use native.Mathlib.Omega.{arith}
 use borrow.Author.Tests.{eq-eqb, ne-eqb, eqb-true, not-true}
 use lib.Dec.{T, eqb, eqb→eq}
@@ -13,7 +13,7 @@ use Rattle.sizes.specs.declared.Protocol.{Protocol}
 use Rattle.sizes.specs.Sizes.{roundsIn, valuesIn, outside, refusal}
 use Rattle.sizes.specs.Laws.{inside, rounds-in-le, accepted}
 use Rattle.messages.specs.Messages.{said, unlessRefused}
-use Rattle.messages.specs.Laws.{accepted as messages-accepted}
+use Rattle.messages.specs.Laws.{accepted as messages-accepted, not-refused as messages-not-refused}
 use Rattle.agreement.specs.declared.Outcome.{Outcome}
 use Rattle.agreement.specs.declared.Stage.{Stage}
 use Rattle.agreement.specs.declared.Stage.the-variants.{Speak, Listen, Ended}
@@ -23,9 +23,10 @@ use Rattle.agreement.specs.declared.Reply.the-variants as R
 use Rattle.agreement.specs.declared.Replied.{Replied}
 use Rattle.agreement.specs.Column.{stageFits, namesFit, numbersFit, fits}
 use Rattle.agreement.specs.Parts.{withVote}
-use Rattle.agreement.specs.Rounds.{kindIn, voting, message, outgoing}
+use Rattle.agreement.specs.Rounds.{kindIn, voting, recast, message, outgoing, listens}
 use Rattle.agreement.specs.Calls.{answered, roundOf, whenSpeaking, whenListening, inState, inRound, speakRefusal, written, listenRefusal, outcomeRefusal, ending, replyOf, shown, outcome}
-use Rattle.calls.specs.Ready.{Ready, toColumns, width, width-is}
+use Rattle.rounds.specs.Rounds.{width, toColumns, roundRefusal, heardIn}
+use Rattle.calls.specs.Widths.{width-is}
 
 -- REFUSED OR NOT
 
@@ -84,21 +85,23 @@ module _ (p : Protocol) (c : Column) where
 
   -- a call in a round that is not refused; the round reads the column as it votes
   pub record Turn (len : ℕ) : Type 0 where
-    pub ready : Ready (kindIn p (c .n) (roundOf (c .stage))) (voting p c) len
+    pub accepts : roundRefusal (kindIn p (c .n) (roundOf (c .stage))) (voting p c) len ≡ 0
     pub low : 1 ≤ roundOf (c .stage)
     pub high : roundOf (c .stage) ≤ roundsIn p (c .n)
     pub few : roundOf (c .stage) ≤ 254
 
   turn : (why len : ℕ) → (T (stageFits (roundsIn p (c .n)) (c .stage)) → why ≡ 0 → (1 ≤ roundOf (c .stage)) × (roundOf (c .stage) ≤ roundsIn p (c .n)))
       → inRound p c why len ≡ 0 → Turn len
-  unfolding inRound voting withVote
+  unfolding inRound voting withVote roundRefusal
   turn why len within h =
       let a = messages-accepted (inState p c why) (c .n) (valuesIn p (c .n) (c .m) (roundOf (c .stage))) len h in
       let s = state-accepted why (a .0) in
       let w = within (stage-fits (s .0)) (s .1) in
       let sizes : refusal (c .n) (c .m) (c .own) ≡ 0 = sizes-fit (s .0) in
       record {
-        ready = record { sizes = sizes; full = a .1 ∙ ap (λ (w : ℕ). c .n * w) (width-is p (c .n) (c .m) (roundOf (c .stage)) (w .0) (w .1)) };
+        accepts =
+            messages-not-refused (refusal (c .n) (c .m) (c .own)) (c .n) (width (c .n) (c .m) (kindIn p (c .n) (roundOf (c .stage)))) len sizes
+            (a .1 ∙ ap (λ (w : ℕ). c .n * w) (width-is p (c .n) (c .m) (roundOf (c .stage)) (w .0) (w .1)));
         low = w .0;
         high = w .1;
         few = omega (arith, w .1, rounds-in-le p (c .n), accepted (c .n) (c .m) (c .own) sizes .range .columns-high);
@@ -111,6 +114,13 @@ module _ (p : Protocol) (c : Column) where
   pub may-listen : (len : ℕ) → listenRefusal p c len ≡ 0 → Turn len
   unfolding listenRefusal
   may-listen len = turn (whenListening (c .stage)) len (listening-in (roundsIn p (c .n)) (c .stage))
+
+  -- the column after a call to listen
+  pub heard-is : (inbox : List ℕ) → listenRefusal p c (length inbox) ≡ 0
+      → recast p (c .vote) (heardIn (kindIn p (c .n) (roundOf (c .stage))) (Speak (roundOf (c .stage) + 1)) (voting p c) inbox)
+      ≡ listens p (roundOf (c .stage)) c inbox
+  unfolding heardIn listens
+  heard-is inbox e = rw (may-listen (length inbox) e .accepts) refl
 
   -- the slice after a call to speak
   pub written-is : (out : List ℕ) (why round : ℕ) → why ≡ speakRefusal p c (length out) → round ≡ roundOf (c .stage)

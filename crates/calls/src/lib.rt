@@ -2,17 +2,10 @@
 // outcome. Each equals its definition in `agreement`, of which the third demand and Definition 3.10 are proved. A refused call gives its
 // number and the state as it came, and writes nothing.
 mod endings;
-mod exchange;
-mod listening;
-mod phases;
-mod post;
-mod reports;
-mod rounds;
+mod kinds;
 mod speaking;
-mod spreading;
 mod start;
 mod votes;
-mod words;
 
 use agreement::Answer;
 use agreement::Answered;
@@ -89,10 +82,10 @@ pub fn listen(protocol: Protocol, column: Column, inbox: &[u16]) -> Answered
         votes::recast(
             protocol,
             column.vote,
-            listening::hear(
+            rounds::hear(
+                kinds::kind_in(protocol, column.n, round),
+                Stage::Speak(round + 1),
                 votes::voting(protocol, column),
-                rounds::kind_in(protocol, column.n, round),
-                round,
                 inbox,
             ),
         ),

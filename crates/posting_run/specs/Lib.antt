@@ -1,5 +1,5 @@
 -- A posting wall. Claim: DEFINITION 3.10 of its entries, as a statement. Theorem: THE THEOREM. Number: the poster's number as a program is told
--- it, and Reading: the loop that reads it.
+-- it.
 pub mod Claim
 pub mod Theorem
 pub mod Number

@@ -4,7 +4,6 @@ use mathlib.Core.Bool.{Bool}
 use mathlib.Core.List.{List, [], append-nil}
 use Prim.Native.Nat.{ℕ}
 use native.Mathlib.Omega.{arith}
-use borrow.Author.Tests.{eq-eqb}
 use lib.Dec.{T, leb}
 use lib.ListN.{length}
 use Rattle.lists.specs.Lists.{Below}
@@ -16,7 +15,6 @@ use Rattle.sizes.specs.Laws.{rounds-in-some}
 use Rattle.messages.specs.Wall.{Sound, holds}
 use Rattle.dispersal.specs.Run.{Graded, keeps}
 use Rattle.agreement.specs.declared.Column.{Column}
-use Rattle.agreement.specs.Calls.{outcome, recordIn}
 use Rattle.agreement.specs.Lists.{afterLeading, leadingCalls}
 use Rattle.agreement.specs.Claim.{Demand as DemandOfCalls, leaves}
 use Rattle.agreement.specs.Agreeing.{grade-lasts}
@@ -24,7 +22,7 @@ use Rattle.agreement.specs.Theorem.{third-demand}
 use Rattle.sheet.specs.Sheet.{columns, bytes, sound, recordOf}
 use Rattle.sheet.specs.Laws.{Accepted}
 use Rattle.wall_run.specs.declared.Entry.{Entry}
-use Rattle.wall_run.specs.Run.{columnAt, ended, gradeShown, soundEntry, entries, refusal, rowAfter}
+use Rattle.wall_run.specs.Run.{gradeShown, soundEntry, entries, refusal, rowAfter}
 use Rattle.wall_run.specs.Row.{accepted-run, run-done}
 use Rattle.wall_run.specs.Claim.{entryOfColumn, endsOn, Demand}
 use Rattle.wall_run.specs.Columns.{delivered, entry-is}

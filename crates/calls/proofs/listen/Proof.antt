@@ -1,9 +1,9 @@
 -- `listen` meets its contract.
 use mathlib.Core.Path.{refl, sym, _∙_}
+use native.Mathlib.Omega.{arith}
 use borrow.Author.Needs.{needs}
-use Rattle.agreement.specs.Rounds.{listens}
 use Rattle.agreement.specs.Calls.{listen}
-use Rattle.calls.specs.Answers.{refused-alike, may-listen}
+use Rattle.calls.specs.Answers.{refused-alike, may-listen, heard-is}
 use Rattle.calls.proofs.listen.Statement.{statement}
 use Rattle.calls.proofs.listen.Tie as tie
 
@@ -20,15 +20,18 @@ returns c = rw (c .answered .ensures, c .before .before .to-listen .ensures) (re
 round-of-requires : tie.Need-round-of-requires
 round-of-requires c κs = search needs
 
-voting-requires : tie.Need-voting-requires
-voting-requires c κs = search needs
-
 kind-in-requires : tie.Need-kind-in-requires
 kind-in-requires c κs = search needs
 
+add-t12 : tie.Need-add-t12
+add-t12 c = let t = may-listen _ _ _ (sym (c .before .before .before .to-listen .ensures) ∙ c .before .before .if1 .left) in
+    record { fits = omega (arith, c .before .round-of .ensures, t .few) }
+
+voting-requires : tie.Need-voting-requires
+voting-requires c κs = search needs
+
 hear-requires : tie.Need-hear-requires
-hear-requires c κs = let t = may-listen _ _ _ (sym (c .before .before .before .before .to-listen .ensures) ∙ c .before .before .before .if1 .left) in
-    (rw (c .kind-in .ensures, c .before .voting .ensures, c .before .before .round-of .ensures) (t .ready), rw (c .before .before .round-of .ensures) (t .few))
+hear-requires c κs = search needs
 
 recast-requires : tie.Need-recast-requires
 recast-requires c κs = search needs
@@ -37,8 +40,9 @@ answered-requires-2 : tie.Need-answered-requires-2
 answered-requires-2 c κs = search needs
 
 returns-2 : tie.Need-returns-2
-unfolding listen listens
-returns-2 c = rw (c .answered2 .ensures, c .before .recast .ensures, c .before .before .hear .ensures, c .before .before .before .kind-in .ensures, c .before .before .before .before .voting .ensures, c .before .before .before .before .before .round-of .ensures, c .before .before .before .before .before .before .before .to-listen .ensures) refl
+unfolding listen
+returns-2 c =
+    rw (c .answered2 .ensures, c .before .recast .ensures, c .before .before .hear .ensures, c .before .before .before .voting .ensures, c .before .before .before .before .kind-in .ensures, c .before .before .before .before .before .round-of .ensures, heard-is _ _ _ (sym (c .before .before .before .before .before .before .before .to-listen .ensures) ∙ c .before .before .before .before .before .before .if1 .left), c .before .before .before .before .before .before .before .to-listen .ensures) refl
 
 pub listen-spec : {M : Type 1} → statement M
 listen-spec =
@@ -48,8 +52,9 @@ listen-spec =
     answered-requires
     returns
     round-of-requires
-    voting-requires
     kind-in-requires
+    add-t12
+    voting-requires
     hear-requires
     recast-requires
     answered-requires-2

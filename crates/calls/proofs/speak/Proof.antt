@@ -16,7 +16,7 @@ round-of-requires : tie.Need-round-of-requires
 round-of-requires c κs = search needs
 
 say-unless-requires : tie.Need-say-unless-requires
-say-unless-requires c κs = λ z. rw (c .before .round-of .ensures) (may-speak (c .before .before .before .before .args .protocol) (c .before .before .before .before .args .column) (length (c .before .before .before .before .args .out .now)) (sym (c .before .before .to-speak .ensures) ∙ z) .ready)
+say-unless-requires c κs = λ z. rw (c .before .round-of .ensures) (may-speak (c .before .before .before .before .args .protocol) (c .before .before .before .before .args .column) (length (c .before .before .before .before .args .out .now)) (sym (c .before .before .to-speak .ensures) ∙ z) .accepts)
 
 answered-requires : tie.Need-answered-requires
 answered-requires c κs = search needs

@@ -1,5 +1,5 @@
 -- `poster_of` meets its contract.
-use mathlib.Core.Path.{sym, refl}
+use mathlib.Core.Path.{refl}
 use borrow.Author.Tests.{lt-ltb, le-ltb}
 use Rattle.posting_run.specs.Number.{number}
 use borrow.Author.Needs.{needs}

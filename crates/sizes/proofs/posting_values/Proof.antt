@@ -3,7 +3,6 @@ use Rattle.sizes.specs.Sizes.{postingValues}
 use Rattle.sizes.specs.Laws.{blocks-le}
 use native.Mathlib.Omega.{arith}
 use borrow.Author.Tests.{eq-eqb, ne-eqb, le-leb, lt-leb}
-use mathlib.Core.Path.{refl}
 use borrow.Author.Needs.{needs}
 use Rattle.sizes.proofs.posting_values.Statement.{statement}
 use Rattle.sizes.proofs.posting_values.Tie as tie

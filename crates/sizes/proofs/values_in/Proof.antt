@@ -1,5 +1,4 @@
 -- `values_in` meets its contract.
-use mathlib.Core.Path.{refl}
 use Rattle.sizes.specs.Sizes.{valuesIn}
 use borrow.Author.Needs.{needs}
 use Rattle.sizes.proofs.values_in.Statement.{statement}

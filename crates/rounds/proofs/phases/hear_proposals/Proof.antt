@@ -1,0 +1,33 @@
+-- `phases::hear_proposals` meets its contract.
+use mathlib.Core.Path.{_≡_, refl}
+use borrow.Author.Needs.{needs}
+use Rattle.agreement.specs.declared.Kind.the-variants.{Proposals}
+use Rattle.agreement.specs.Parts.{withStage, withVote}
+use Rattle.agreement.specs.Rounds.{hears, received, resettled}
+use Rattle.rounds.specs.Ready.{hasOne}
+use Rattle.rounds.proofs.phases.hear_proposals.Statement.{statement}
+use Rattle.rounds.proofs.phases.hear_proposals.Tie as tie
+
+received-requires : tie.Need-received-requires
+unfolding hasOne
+received-requires c κs = refl
+
+settled-requires : tie.Need-settled-requires
+settled-requires c κs = search needs
+
+firm-requires : tie.Need-firm-requires
+firm-requires c κs = search needs
+
+returns : tie.Need-returns
+unfolding hears withStage received withVote resettled
+returns c =
+    let a = c .before .before .before .before .before .before .before .before .args in
+    let vote = c .before .before .before .before .before .settled .result in
+    let sure = c .before .before .before .before .firm .result in
+    let e : withStage (a .next) (withVote vote sure (a .column)) ≡ hears Proposals (a .next) (a .column) (a .inbox .now) =
+    rw (c .before .before .before .before .firm .ensures, c .before .before .before .before .before .settled .ensures, c .before .before .before .before .before .before .received .ensures) refl in
+    e
+
+pub hear-proposals-spec : {M : Type 1} → statement M
+hear-proposals-spec =
+    tie.close (tie.spec received-requires settled-requires firm-requires returns)

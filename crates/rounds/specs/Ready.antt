@@ -1,0 +1,112 @@
+-- What is known behind the refusals: the slice has the length of the round's messages, by the round's kind; so the building blocks refuse
+-- nothing either.
+use mathlib.Core.Path.{_≡_, refl, sym, ap, _∙_}
+use mathlib.Core.Bool.{Bool, true, false, cond, true≢false}
+use mathlib.Core.List.{List, [], _∷_}
+use Prim.Native.Nat.{ℕ, _*_}
+use borrow.Author.Tests.{eq-eqb, ne-eqb}
+use lib.Dec.{eqb}
+use lib.ListN.{length}
+use Rattle.lists.specs.Rows.{rowsOf-same}
+use Rattle.field.specs.Field.{blank}
+use Rattle.sizes.specs.Sizes.{blocks, refusal}
+use Rattle.sizes.specs.Laws.{columns-of, first-column}
+use Rattle.messages.specs.Messages.{said, toAll, toAllRefusal}
+use Rattle.messages.specs.Laws.{toAll-same, not-refused, accepted}
+use Rattle.dispersal.specs.Dispersal.{exchangeRefusal}
+use Rattle.dissemination.specs.Dissemination.{spoken, roundRefusal as pointsRefusal}
+use Rattle.dissemination.specs.Laws.{silenced, said-silenced}
+use Rattle.agreement.specs.declared.Stage.{Stage}
+use Rattle.agreement.specs.declared.Column.{Column}
+use Rattle.agreement.specs.declared.Kind.{Kind}
+use Rattle.agreement.specs.declared.Kind.the-variants.{Exchange, FirstReport, SecondReport, Votes, Proposals, King, Points, KeptPoints, Post}
+use Rattle.agreement.specs.Rounds.{message, hears}
+use Rattle.rounds.specs.Rounds.{width, toColumns, roundRefusal, heardIn}
+
+-- ROUNDS OF ONE VALUE
+
+unfoldable pub hasOne : Kind → Bool
+hasOne Exchange = false
+hasOne FirstReport = true
+hasOne SecondReport = true
+hasOne Votes = true
+hasOne Proposals = true
+hasOne (King king) = true
+hasOne Points = false
+hasOne KeptPoints = false
+hasOne (Post s) = false
+
+-- the value; blank in a round of more
+unfoldable pub word : Kind → Column → ℕ
+word kind c = cond (hasOne kind) (said (message kind c (c .own)) 0) blank
+
+-- it is the whole message to every column
+pub one-word : (kind : Kind) (c : Column) → hasOne kind ≡ true → (width (c .n) (c .m) kind ≡ 1) × ((j : ℕ) → message kind c j ≡ word kind c ∷ [])
+unfolding hasOne width word said message
+one-word Exchange c h = absurd (true≢false (sym h))
+one-word FirstReport c h = (refl, λ j. refl)
+one-word SecondReport c h = (refl, λ j. refl)
+one-word Votes c h = (refl, λ j. refl)
+one-word Proposals c h = (refl, λ j. refl)
+one-word (King king) c h = (refl, λ j. refl)
+one-word Points c h = absurd (true≢false (sym h))
+one-word KeptPoints c h = absurd (true≢false (sym h))
+one-word (Post s) c h = absurd (true≢false (sym h))
+
+pub word-to-all : (kind : Kind) (c : Column) → hasOne kind ≡ true → toAll (c .n) 1 (word kind c ∷ []) ≡ toColumns kind c
+unfolding toAll toColumns
+word-to-all kind c h =
+    let one = one-word kind c h in
+    rw (one .0) (rowsOf-same (λ j. said (word kind c ∷ [])) (λ j. said (message kind c j)) 1 (c .n) (λ j k. ap (λ (l : List ℕ). said l k) (sym (one .1 j))))
+
+-- BEHIND THE REFUSALS
+
+-- a column that may speak or listen with a slice of `len` values in a round of the kind
+pub record Ready (kind : Kind) (c : Column) (len : ℕ) : Type 0 where
+  pub sizes : refusal (c .n) (c .m) (c .own) ≡ 0
+  pub full : len ≡ c .n * width (c .n) (c .m) kind
+
+pub ready : (kind : Kind) (c : Column) (len : ℕ) → roundRefusal kind c len ≡ 0 → Ready kind c len
+unfolding roundRefusal
+ready kind c len e =
+    let a = accepted (refusal (c .n) (c .m) (c .own)) (c .n) (width (c .n) (c .m) kind) len e in
+    record { sizes = a .0; full = a .1 }
+
+-- what a column becomes, refused or not
+module _ (kind : Kind) (next : Stage) (c : Column) (inbox : List ℕ) (why : ℕ) (e : why ≡ roundRefusal kind c (length inbox)) where
+  pub heard-refused : (why ≡ 0 → ⊥) → c ≡ heardIn kind next c inbox
+  unfolding heardIn
+  heard-refused h = rw (← e, ne-eqb why 0 h) refl
+
+  pub heard-done : why ≡ 0 → hears kind next c inbox ≡ heardIn kind next c inbox
+  unfolding heardIn
+  heard-done z = rw (← e, eq-eqb why 0 z) refl
+
+module _ (c : Column) (len : ℕ) where
+  pub exchange-accepted : Ready Exchange c len → exchangeRefusal (c .n) (c .m) (c .own) len ≡ 0
+  unfolding width
+  exchange-accepted r = not-refused (refusal (c .n) (c .m) (c .own)) (c .n) (2 * blocks (c .n) (c .m)) len (r .sizes) (r .full)
+
+  pub word-accepted : (kind : Kind) → hasOne kind ≡ true → Ready kind c len → toAllRefusal (c .n) 1 len ≡ 0
+  word-accepted kind h r =
+      not-refused (refusal (c .n) 1 1) (c .n) 1 len (columns-of (c .n) (c .m) (c .own) (r .sizes)) (r .full ∙ ap (λ (w : ℕ). c .n * w) (one-word kind c h .0))
+
+  -- in the two rounds of dissemination, to listen and to speak
+  pub points-heard : (kind : Kind) → width (c .n) (c .m) kind ≡ blocks (c .n) (c .m) → Ready kind c len → pointsRefusal (c .n) (c .m) (c .own) len ≡ 0
+  points-heard kind e r =
+      not-refused (refusal (c .n) (c .m) (c .own)) (c .n) (blocks (c .n) (c .m)) len (r .sizes) (r .full ∙ ap (λ (w : ℕ). c .n * w) e)
+
+  pub points-said : (kind : Kind) → width (c .n) (c .m) kind ≡ blocks (c .n) (c .m) → Ready kind c len → pointsRefusal (c .n) (c .m) 1 len ≡ 0
+  points-said kind e r =
+      not-refused (refusal (c .n) (c .m) 1) (c .n) (blocks (c .n) (c .m)) len (first-column (c .n) (c .m) (c .own) (r .sizes)) (r .full ∙ ap (λ (w : ℕ). c .n * w) e)
+
+  -- in the poster's round
+  pub post-accepted : (s : ℕ) → Ready (Post s) c len → toAllRefusal (c .n) (c .m) len ≡ 0
+  unfolding width
+  post-accepted s r = not-refused (refusal (c .n) 1 1) (c .n) (c .m) len (columns-of (c .n) (c .m) (c .own) (r .sizes)) (r .full)
+
+-- what is said there, in places enough
+pub post-to-all : (s : ℕ) (c : Column) (mine : List ℕ) → mine ≡ silenced (eqb (c .own) s) (c .bytes) → toAll (c .n) (c .m) mine ≡ toColumns (Post s) c
+unfolding toAll toColumns width message
+post-to-all s c mine e =
+    toAll-same (c .n) (c .m) mine (spoken (eqb (c .own) s) (c .bytes)) (λ k. rw e (said-silenced (eqb (c .own) s) (c .bytes) k))

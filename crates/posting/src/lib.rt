@@ -1,11 +1,12 @@
 // A column of a wall that runs a posting, in which one column, the poster, posts its record to all: the calls that make it, let it speak
 // and listen in every round and ask it for its outcome and its grade. Each equals its definition in specs/, by the calls' definitions in
 // `agreement`, of which Definition 3.10 is proved. A refused call gives its number and the state as it came, and writes nothing.
-use agreement::Answer;
+pub use agreement::Answer;
 use agreement::Answered;
-use agreement::Column;
-use agreement::Outcome;
-use agreement::Reply;
+pub use agreement::Column;
+pub use agreement::Outcome;
+pub use agreement::Reply;
+pub use agreement::Stage;
 use sizes::Protocol;
 ghost use mathlib.Core.Path.{_≡_};
 ghost use Rattle.agreement.specs.declared.Reply.the-variants as R;

@@ -7,10 +7,10 @@ use Prim.Native.Nat.{ℕ, suc, _*_, _<_}
 use native.Mathlib.Omega.{arith}
 use Rattle.sizes.specs.declared.Protocol.{Protocol}
 use Rattle.sizes.specs.Sizes.{blocks, roundsIn, valuesIn}
-use Rattle.messages.specs.Messages.{toAll}
+use Rattle.messages.specs.Messages.{from, toAll, heardOfAll}
 use Rattle.messages.specs.Wall.{Sound, Delivered}
 use Rattle.codeword.specs.Codeword.{Held}
-use Rattle.dispersal.specs.Dispersal.{exchange, exchanges, agreements}
+use Rattle.dispersal.specs.Dispersal.{exchange, exchanges, agreements, agrees, firstReport, reports}
 use Rattle.dispersal.specs.Run.{Graded}
 use Rattle.dispersal.specs.Graded.{grade-lt}
 use Rattle.dispersal.specs.Calls.{agreementsOf, firstOf, reportsOf, secondOf, leavesWith, calls-graded}
@@ -61,7 +61,10 @@ module _ {p : Protocol} {n m : ℕ} {H : ℕ → Bool} {held : ℕ → List ℕ}
   unfolding q₁ q₂ hears voting recast withStage withReports withVote received message
   reports₂ i =
       let a = is C i q₁ (omega (arith, D .many)) in
-      ap (λ (c : Column). c .reports) (next C i q₁ FirstReport (D .kind₂)) ∙ rw (a .n-is, a .own-is, agreements₁ i)
+      let c = state C i q₁ in
+      let e : reports (c .n) (from (heardOfAll (c .n) (c .own) (firstReport (c .n) (agrees (c .agreements)) ∷ []) 1 (of C (suc q₁) i) 0)) ≡ reported i =
+      rw (a .n-is, a .own-is, agreements₁ i) in
+      ap (λ (c : Column). c .reports) (next C i q₁ FirstReport (D .kind₂)) ∙ e
 
   -- the grade with which a column leaves is the one that Protocol 3.2 gives
   grade₃ : (i : ℕ) → state C i q₃ .grade ≡ leavesWith n m places (of C q₁) (of C q₂) (of C q₃) i
@@ -78,7 +81,10 @@ module _ {p : Protocol} {n m : ℕ} {H : ℕ → Bool} {held : ℕ → List ℕ}
   unfolding q₁ message voting withVote exchanges
   sent₁ =
       sent C q (2 * blocks n m) Exchange (λ j i. exchange n m j (places j) i) (omega (arith, D .many)) (D .kind₁) (D .width₁) (λ j i sj.
-      let a = is C j q (omega (arith, D .many)) in rw (a .n-is, a .m-is, a .own-is, holding j))
+      let a = is C j q (omega (arith, D .many)) in
+      let c = state C j q in
+      let e : exchange (c .n) (c .m) (c .own) (c .bytes) i ≡ exchange n m j (places j) i = rw (a .n-is, a .m-is, a .own-is, holding j) in
+      e)
 
   sent₂ : Delivered n H 1 (λ j. toAll n 1 (firstOf n m places (of C q₁) (of C q₂) (of C q₃) j ∷ [])) (of C q₂)
   unfolding q₁ q₂ message voting withVote toAll

@@ -1,4 +1,5 @@
 -- `kinds::king_round` meets its contract.
+use mathlib.Core.Path.{refl}
 use borrow.Author.Tests.{eq-eqb, ne-eqb}
 use borrow.Author.Needs.{needs}
 use Rattle.agreement.specs.Rounds.{kingRound}
@@ -18,7 +19,7 @@ add-t4 c = search needs
 
 returns-3 : tie.Need-returns-3
 unfolding kingRound
-returns-3 c = simp (ne-eqb _ _ (c .before .if1 .left), ne-eqb _ _ (c .if2 .left))
+returns-3 c = rw (ne-eqb _ _ (c .before .if1 .left), ne-eqb _ _ (c .if2 .left)) refl
 
 pub king-round-spec : {M : Type 1} → statement M
 king-round-spec = tie.close (tie.spec returns returns-2 add-t4 returns-3)

@@ -11,7 +11,7 @@ use Rattle.lists.specs.Lists.{sum}
 use Rattle.lists.specs.Entries.{sum-more}
 use Rattle.sizes.specs.declared.Protocol.{Protocol}
 use Rattle.sizes.specs.declared.Protocol.the-variants.{Agreement, Posting}
-use Rattle.sizes.specs.Sizes.{faults, degree, blocks, rounds, values, line, outside, refusal, postingValues, roundsIn, valuesIn, lineIn, beside}
+use Rattle.sizes.specs.Sizes.{faults, degree, blocks, rounds, values, line, outside, refusal, postingValues, roundsIn, valuesIn, lineIn}
 
 -- BOUNDS OF ANY SIZES, IN RANGE OR NOT
 
@@ -270,8 +270,3 @@ pub values-in-all : (p : Protocol) (n m : ℕ) → sum (valuesIn p n m) (roundsI
 unfolding roundsIn valuesIn lineIn sum postingValues
 values-in-all Agreement n m = values-all n m
 values-in-all (Posting s) n m = omega arith
-
--- of a wall in which column 1 stands beside the sizes, nothing is asked by it
-pub beside-accepted : (p : Protocol) (n m own : ℕ) → refusal n m own ≡ 0 → (p ≡ Agreement) → refusal n m (beside p) ≡ 0
-unfolding beside
-beside-accepted p n m own e q = rw q (first-column n m own e)

@@ -14,7 +14,7 @@ use Rattle.lists.specs.Entries.{length-listOf, getD-listOf, listOf-same}
 use Rattle.lists.specs.Tests.{passes}
 use Rattle.lists.specs.Rows.{rowsOf-same}
 use Rattle.field.specs.Field.{blank}
-use Rattle.messages.specs.Messages.{readPoint, readReport, readBit, said, from, toAll, laid, written, refusal, unlessRefused, heard, heardFrom, heardOfAll}
+use Rattle.messages.specs.Messages.{readPoint, readReport, readBit, said, from, toAll, laid, written, put, refusal, unlessRefused, heard, heardFrom, heardOfAll}
 
 -- WHAT A VALUE SAYS: a legal value is itself
 
@@ -83,6 +83,14 @@ written-as w message other part h e =
 pub not-written : (w : ℕ) (message part : List ℕ) → length part < w → written w message part ≡ part
 unfolding written
 not-written w message part h = simp (lt-leb w (length part) h)
+
+pub put-fits : (bytes part : List ℕ) → length bytes ≤ length part → put bytes part ≡ bytes ++ drop (length bytes) part
+unfolding put
+put-fits bytes part h = simp (le-leb (length bytes) (length part) h)
+
+pub not-put : (bytes part : List ℕ) → length part < length bytes → put bytes part ≡ part
+unfolding put
+not-put bytes part h = simp (lt-leb (length bytes) (length part) h)
 
 pub toAll-same : (n w : ℕ) (message other : List ℕ) → ((k : ℕ) → said message k ≡ said other k) → toAll n w message ≡ toAll n w other
 unfolding toAll

@@ -34,6 +34,10 @@ said message k = getD message k blank
 unfoldable pub from : List ℕ → ℕ → ℕ
 from values j = getD values (j - 1) blank
 
+-- a value that lies in bytes, from byte p on: "each value two bytes, low byte first"; a byte past the end is 0
+unfoldable pub word : List ℕ → ℕ → ℕ
+word bytes p = getD bytes p 0 + 256 * getD bytes (p + 1) 0
+
 -- one message of w values to each of n columns
 unfoldable pub toAll : ℕ → ℕ → List ℕ → List ℕ
 toAll n w message = rowsOf (λ j. said message) w n
@@ -45,6 +49,10 @@ laid w message = listOf (said message) w
 -- what stands in a part of the outgoing slice after a message of w values was written to its front; one that has no room stays as it was
 unfoldable pub written : ℕ → List ℕ → List ℕ → List ℕ
 written w message part = cond (leb w (length part)) (laid w message ++ drop w part) part
+
+-- bytes at the front of a part, in the same way
+unfoldable pub put : List ℕ → List ℕ → List ℕ
+put bytes part = cond (leb (length bytes) (length part)) (bytes ++ drop (length bytes) part) part
 
 -- "4: a slice .. whose length is not the one required": n messages of w values. A refusal `why` of what comes before stands; 0 for none
 unfoldable pub refusal : ℕ → ℕ → ℕ → ℕ → ℕ

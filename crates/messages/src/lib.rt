@@ -7,7 +7,7 @@ ghost use Prim.Native.Nat.{_+_, _*_, _≤_};
 ghost use lib.Dec.{eqb, leb};
 ghost use lib.ListN.{length, getD};
 ghost use Rattle.lists.specs.Lists.{bit};
-ghost use Rattle.messages.specs.Messages.{readPoint, readReport, readBit, readByte, said, from, toAll, written, refusal as refusalOf, unlessRefused, toAllRefusal, heard as heardOf, heardFrom, heardOfAll, times as timesOf};
+ghost use Rattle.messages.specs.Messages.{readPoint, readReport, readBit, readByte, said, from, word as wordOf, toAll, written, put as putOf, refusal as refusalOf, unlessRefused, toAllRefusal, heard as heardOf, heardFrom, heardOfAll, times as timesOf};
 
 // A point, 0 to 256; any other value is blank.
 pub fn read_point(v: u16) -> u16
@@ -69,6 +69,28 @@ pub fn byte(bytes: &[u8], p: usize) -> u8
     0
 }
 
+// The value that lies in bytes from byte p on, low byte first; a byte past the end is 0.
+pub fn word(bytes: &[u8], p: usize) -> u16
+    ensures { λ r. ⌜ r ≡ wordOf (now (bytes .entry)) p ⌝ }
+{
+    if bytes.len() <= p {
+        return 0;
+    }
+    let low = byte(bytes, p) as u16;
+    let high = byte(bytes, p + 1) as u16;
+    low + 256 * high
+}
+
+// A flag as a byte: 1 where it is set, else 0.
+pub fn flag(set: bool) -> u8
+    ensures { λ r. ⌜ r ≡ bit set ⌝ }
+{
+    if set {
+        return 1;
+    }
+    0
+}
+
 // The place of value k of column j + 1's message, where messages have w values.
 pub fn place(j: u8, w: u16, k: u16) -> usize
     ensures { λ r. ⌜ r ≡ j * w + k ⌝ }
@@ -99,6 +121,19 @@ pub fn write(w: u16, message: &[u16], part: &mut [u16]) -> u8
     }
     for k in 0..all {
         part[k] = value(message, k);
+    }
+    0
+}
+
+// Writes bytes to the front of a part of a slice; refused with 4 where there is no room for them.
+pub fn put(bytes: &[u8], part: &mut [u8]) -> u8
+    ensures { λ r. ⌜ (r ≡ cond (leb (length (now (bytes .entry))) (length (now (part .entry)))) 0 4) × (now (part .exit) ≡ putOf (now (bytes .entry)) (now (part .entry))) ⌝ }
+{
+    if part.len() < bytes.len() {
+        return 4;
+    }
+    for i in 0..bytes.len() {
+        part[i] = bytes[i];
     }
     0
 }

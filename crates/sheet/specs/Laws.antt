@@ -14,7 +14,8 @@ use Rattle.lists.specs.Entries.{all-each}
 use Rattle.lists.specs.Rows.{row-fits}
 use Rattle.sizes.specs.Sizes.{faults, refusal as refusalOfSizes}
 use Rattle.sizes.specs.Laws.{InRange, accepted as accepted-sizes}
-use Rattle.sheet.specs.Sheet.{columns, bytes, mark, unsoundTo, recordPlace, recordOf, arrays, word, lineValue, whole, markFits, inOrder, refusalOfMarks, refusal}
+use Rattle.messages.specs.Messages.{word}
+use Rattle.sheet.specs.Sheet.{columns, bytes, mark, unsoundTo, recordPlace, recordOf, arrays, lineValue, whole, markFits, inOrder, refusalOfMarks, refusal}
 
 -- WHERE THINGS STAND
 

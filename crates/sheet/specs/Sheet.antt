@@ -7,6 +7,7 @@ use lib.Dec.{eqb, ltb, leb}
 use lib.ListN.{length, getD, take, drop}
 use Rattle.lists.specs.Lists.{count, all}
 use Rattle.sizes.specs.Sizes.{faults, refusal as refusalOfSizes}
+use Rattle.messages.specs.Messages.{word}
 
 -- "n and m, a byte each"
 unfoldable pub columns : List ℕ → ℕ
@@ -41,10 +42,6 @@ recordOf sheet i = take (bytes sheet) (drop (recordPlace (columns sheet) (bytes 
 -- where both arrays end and the lines begin
 unfoldable pub arrays : ℕ → ℕ → ℕ
 arrays n m = 2 + n + n * m
-
--- "each value two bytes, low byte first"
-unfoldable pub word : List ℕ → ℕ → ℕ
-word sheet p = getD sheet p 0 + 256 * getD sheet (p + 1) 0
 
 -- "for each receiver 1 to n, the values of all rounds in order", `line` of them: value q of what an unsound column, before which there are
 -- `before` others, sends column i

@@ -1,7 +1,7 @@
 // A sheet of a wall, read where it lies: the sizes, the marks, where the records stand, the lines of the unsound columns, and what is refused.
 ghost use mathlib.Core.Path.{_≡_};
 ghost use Prim.Native.Nat.{_+_, _*_, _<_};
-ghost use Rattle.sheet.specs.Sheet.{columns as columnsOf, bytes as bytesOf, mark as markOf, sound as soundOf, unsound as unsoundOf, unsoundTo, recordPlace, arrays as arraysOf, word as wordOf, lineValue, whole as wholeOf, markFits, inOrder, refusalOfMarks, refusal as refusalOf};
+ghost use Rattle.sheet.specs.Sheet.{columns as columnsOf, bytes as bytesOf, mark as markOf, sound as soundOf, unsound as unsoundOf, unsoundTo, recordPlace, arrays as arraysOf, lineValue, whole as wholeOf, markFits, inOrder, refusalOfMarks, refusal as refusalOf};
 ghost use Rattle.lists.specs.Lists.{bit, all};
 
 // n, the number of columns.
@@ -70,16 +70,6 @@ fn arrays(n: u8, m: u8) -> usize
     2 + n as usize + messages::place(n, m as u16, 0)
 }
 
-// The number at byte p, low byte first.
-fn word(sheet: &[u8], p: usize) -> u16
-    requires { ⌜ p < 34359738368 ⌝ }
-    ensures { λ r. ⌜ r ≡ wordOf (now (sheet .entry)) p ⌝ }
-{
-    let low = messages::byte(sheet, p) as u16;
-    let high = messages::byte(sheet, p + 1) as u16;
-    low + 256 * high
-}
-
 fn times(a: u16, b: u16) -> usize
     ensures { λ r. ⌜ r ≡ a * b ⌝ }
 {
@@ -101,7 +91,7 @@ pub fn line_value(sheet: &[u8], line: u16, before: u8, to: u8, q: u32) -> u16
 {
     let n = columns(sheet);
     let m = bytes(sheet);
-    word(
+    messages::word(
         sheet,
         arrays(n, m) + 2 * values_before(n, line, before, to, q),
     )

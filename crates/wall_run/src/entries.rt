@@ -53,7 +53,7 @@ fn grade_shown(protocol: Protocol, grade: u8, reply: Reply) -> u8
 }
 
 // The entry of a sound column.
-fn sound_entry(protocol: Protocol, column: Column) -> Entry
+pub(super) fn sound_entry(protocol: Protocol, column: Column) -> Entry
     ensures { λ r. ⌜ r ≡ soundEntry protocol column ⌝ }
 {
     let asked = calls::outcome(protocol, column);

@@ -8,10 +8,11 @@ mod space;
 mod speaking;
 mod start;
 
+use agreement::Column;
 pub use sizes::Protocol;
 ghost use mathlib.Core.Path.{_≡_};
 ghost use lib.ListN.{length};
-ghost use Rattle.wall_run.specs.Run.{refusal as refusalOf, rowAfter, outcomes};
+ghost use Rattle.wall_run.specs.Run.{soundEntry, refusal as refusalOf, rowAfter, outcomes};
 
 // What one column came to: its mark, the grade with which it left dispersal, or in a posting that of its outcome, its last vote, whether it
 // ended on a record, and the record's bytes, zeros past m and where there is none. The entry of an unsound column is its mark and zeros.
@@ -29,6 +30,13 @@ pub struct Outcomes {
     pub refusal: u8,
     pub count: usize,
     pub entries: [Entry; 31],
+}
+
+// The entry of a sound column that came to this state.
+pub fn sound_entry(protocol: Protocol, column: Column) -> Entry
+    ensures { λ r. ⌜ r ≡ soundEntry protocol column ⌝ }
+{
+    entries::sound_entry(protocol, column)
 }
 
 // The refusal of a sheet, for a row of `rows` entries: 1, 2, 3 for the poster of a posting, 4, 5, 6 as document 01 numbers and orders them,

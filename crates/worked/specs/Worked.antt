@@ -8,7 +8,7 @@ use Rattle.field.specs.Field.{add, multiply, inverse, inverseBelow}
 use Rattle.block.specs.Block.{part, value}
 use Rattle.sizes.specs.declared.Protocol.the-variants.{Agreement, Posting}
 use Rattle.sizes.specs.Sizes.{faults, degree, blocks, rounds, values, line, refusal, outside, postingValues, roundsIn, valuesIn, lineIn, beside}
-use Rattle.messages.specs.Messages.{readPoint, readReport, readBit, readByte, said, from, refusal as refusalOfLength, unlessRefused, heard, heardFrom, heardOfAll, times}
+use Rattle.messages.specs.Messages.{readPoint, readReport, readBit, readByte, said, from, word as wordAt, refusal as refusalOfLength, unlessRefused, heard, heardFrom, heardOfAll, times}
 use Rattle.codeword.specs.Codeword.{point, values as valuesAt}
 use Rattle.decoder.specs.Decoder.{decoded, found, seek, through, under, slopes, answerOf, polynomialOf, coefficients}
 use Rattle.decoder.specs.declared.Decoded.the-variants.{Polynomial, Nothing}
@@ -20,7 +20,7 @@ use Rattle.agreement.specs.Parts.{withStage, withBytes, withProposal, withAgree
 use Rattle.agreement.specs.Post.{postedBy, sentByte, postedByte, takenRecord, posted}
 use Rattle.agreement.specs.Rounds.{kingRound, laterRound, kindOf, postingKind, kindIn, voteIn, voteAfter, voting, recast, listens, votesOne, spreads, message, outgoing, received, kingSaid, graded, firstVote, resettled, outcomeOf, endsOn, hears}
 use Rattle.agreement.specs.Calls.{answerOf as answerTo, answered, orElse, freshRefusal, fresh, noColumn, roundOf, whenSpeaking, whenListening, whenAsked, inState, inRound, speakRefusal, speak, written, listenRefusal, listen, outcomeRefusal, ending, replyOf, shown, outcome, gradeIn}
-use Rattle.sheet.specs.Sheet.{columns, bytes, mark, sound, unsound, unsoundTo, recordPlace, recordOf as recordIn, arrays, word as wordAt, lineValue, whole, markFits, inOrder, refusalOfMarks, refusal as refusalOfSheet}
+use Rattle.sheet.specs.Sheet.{columns, bytes, mark, sound, unsound, unsoundTo, recordPlace, recordOf as recordIn, arrays, lineValue, whole, markFits, inOrder, refusalOfMarks, refusal as refusalOfSheet}
 use Rattle.delivery.specs.Delivery.{mailed, lied, sent, inbox}
 use Rattle.wall_run.specs.Run.{columnAt, turned, each, made, start, roundAt, blanks, spoken as spoke, words, wordsOf, mail, heard as heardBy, played, after, ended, hasRecord, markOnly, gradeShown, soundEntry, entryOf, entryIn, refusal as refusalOfRun, inPlaces, settled as ran, refused, outcomes}
 use Rattle.listing.specs.Listing.{ascii, joined, digit, decimal, named, hexDigit, hex, hexAt, hexes, sizesLine, recordText, soundLine, unsoundLine, columnLine, lineAt, columnLines, refusedLine, listing, listingOf}

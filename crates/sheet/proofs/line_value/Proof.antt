@@ -25,7 +25,7 @@ add-word : tie.Need-add-word
 add-word c = omega (arith, c .values-before .ensures .1, c .before .arrays .ensures, arrays-le (c .before .before .before .columns .result) (c .before .before .bytes .result) (omega arith) (omega arith))
 
 word-requires : tie.Need-word-requires
-word-requires c κs = omega (arith, c .values-before .ensures .1, c .before .arrays .ensures, arrays-le (c .before .before .before .columns .result) (c .before .before .bytes .result) (omega arith) (omega arith))
+word-requires c κs = search needs
 
 returns : tie.Need-returns
 returns c = rw (line-value, c .word .ensures, c .before .values-before .ensures .0, c .before .before .arrays .ensures, c .before .before .before .bytes .ensures, c .before .before .before .before .columns .ensures) refl

@@ -7,17 +7,15 @@ use std::time::Instant;
 
 type Decode = fn(usize, &[u16]) -> Option<[u16; 4]>;
 
-/// The only place that knows how the library is called and how it packs its answer.
+/// The only place that knows how the library is called (include/column.h) and how it tells none: by blanks.
 fn proved(n: usize, points: &[u16]) -> Option<[u16; 4]> {
     unsafe extern "C" {
-        fn decoder_decode(n: u8, points: *const u16, len: usize) -> u64;
+        fn column_decode(n: u32, points: *const u16, len: usize, out: *mut u16, room: usize) -> u8;
     }
-    let word = unsafe { decoder_decode(n as u8, points.as_ptr(), points.len()) };
-    match word >> 60 {
-        0 => None,
-        1 => Some([0, 14, 28, 42].map(|shift| (word >> shift & 0x3fff) as u16)),
-        _ => panic!("the library refused {} points for n = {n}: {word:#x}", points.len()),
-    }
+    let mut out = [0; 4];
+    let refusal = unsafe { column_decode(n as u32, points.as_ptr(), points.len(), out.as_mut_ptr(), out.len()) };
+    assert_eq!(refusal, 0, "the library refused {} points for n = {n}", points.len());
+    (out[0] != 65535).then_some(out)
 }
 
 /// Xorshift, so that every run has the same inputs.

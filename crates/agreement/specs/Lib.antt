@@ -4,7 +4,7 @@
 -- as a statement), Gradecast (DEFINITION 3.10 as a statement). The proofs: Kinds (which round is of which kind), Course (a column's state after
 -- each round), Courses, Dispersal, Dissemination (the courses of the sound columns are runs of the building blocks); of an agreement Agreeing,
 -- Phases and Decision (they end on one outcome); of a posting Taken and Binding (what they output is a gradecast); Endings (what a column that
--- ended answers), Turns (one call), Ranges (no call leaves a state out of its ranges), Walk and Runs (lists of calls come to their courses),
+-- ended answers), Turns (one call), Ranges and Shapes (no call leaves a state out of its ranges, or an array of another length), Walk and Runs (lists of calls come to their courses),
 -- Theorem (THE THEOREM of an agreement), Posting (THE THEOREM of a posting). Example: a run that meets the premises.
 pub mod Parts
 pub mod Column
@@ -27,6 +27,7 @@ pub mod Binding
 pub mod Endings
 pub mod Turns
 pub mod Ranges
+pub mod Shapes
 pub mod Walk
 pub mod Runs
 pub mod Theorem

@@ -4,7 +4,7 @@ use mathlib.Core.Bool.{Bool, true, false, _&&_}
 use mathlib.Core.List.{List, [], _∷_, _++_, append-assoc, append-nil}
 use mathlib.Core.Logic.{⊎-elim}
 use Prim.Native.Nat.{ℕ, zero, suc, _+_, _*_, _≤_, _<_}
-use native.Mathlib.Nat.{eq-or-lt-of-le, le-of-suc-le-suc, le-refl, le-trans, le-suc, suc-mul}
+use native.Mathlib.Nat.{eq-or-lt-of-le, le-of-suc-le-suc, le-refl, le-trans, le-suc, suc-mul, add-zero, add-suc}
 use native.Mathlib.Numerals.{add-one}
 use native.Mathlib.Decide.{decLt}
 use native.Mathlib.Omega.{arith}
@@ -117,6 +117,12 @@ module _ {ℓ} {A : Type ℓ} where
   listOf-getD l n z e =
       ext-getD z (listOf (λ i. getD l i z) n) l (length-listOf (λ i. getD l i z) n ∙ sym e) (λ i h.
       getD-listOf (λ i. getD l i z) n i z (omega (arith, length-listOf (λ i. getD l i z) n)))
+
+  -- a list in two parts
+  pub listOf-cut : (f : ℕ → A) (a b : ℕ) → listOf f (a + b) ≡ listOf f a ++ listOf (λ i. f (a + i)) b
+  unfolding listOf
+  listOf-cut f a zero = rw add-zero (sym (append-nil (listOf f a)))
+  listOf-cut f a (suc b) = rw (add-suc, listOf-cut f a b) (append-assoc (listOf f a) (listOf (λ i. f (a + i)) b) (f (a + b) ∷ []))
 
   pub listOf-none : (f : ℕ → A) (d : List A) → d ≡ listOf f 0 ++ drop 0 d
   unfolding listOf

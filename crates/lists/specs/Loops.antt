@@ -78,16 +78,18 @@ module _ {ℓ} {A : Type ℓ} where
         holds = rw (q, p .holds) (rowsOf-more f w j d₀);
       }
 
-  -- the part of the list from place a on, as the borrow checker says it of `&mut out[a..]`
-  all-of : (d : List A) (a : ℕ) → take (length d - a) (drop a d) ≡ drop a d
+  -- the part of the list from place a on, as the borrow checker says it of `&mut out[a..]`, and that nothing lies behind it
+  pub all-of : (d : List A) (a : ℕ) → take (length d - a) (drop a d) ≡ drop a d
   all-of d a = take-all (length d - a) (drop a d) (omega (arith, length-drop a d))
+
+  pub none-behind : (d : List A) (a : ℕ) → drop (length d - a) (drop a d) ≡ []
+  none-behind d a = drop-of-length-le (drop a d) {i = length d - a} (omega (arith, length-drop a d))
 
   -- a part that starts at place a was lent to a call that wrote column j + 1's row to its front
   pub rowed-more : (f : ℕ → ℕ → A) (w n : ℕ) (d₀ d e : List A) (j a : ℕ) → Rowed f w n d₀ d j → j < n → a ≡ j * w
       → e ≡ listOf (f (j + 1)) w ++ drop w (take (length d - a) (drop a d)) → Rowed f w n d₀ (take a d ++ (e ++ drop (length d - a) (drop a d))) (j + 1)
   rowed-more f w n d₀ d e j a p h t q =
-      let none : drop (length d - a) (drop a d) ≡ [] = drop-of-length-le (drop a d) {i = length d - a} (omega (arith, length-drop a d)) in
-      rw (none, append-nil, t) (rowed-written f w n d₀ d e j p h (rw (all-of d a, t) at q))
+      rw (none-behind d a, append-nil, t) (rowed-written f w n d₀ d e j p h (rw (all-of d a, t) at q))
 
   -- the part that is lent has room for a row
   pub rowed-room : (f : ℕ → ℕ → A) (w n : ℕ) (d₀ d : List A) (j a : ℕ) → Rowed f w n d₀ d j → j < n → a ≡ j * w

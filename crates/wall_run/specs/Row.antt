@@ -67,16 +67,21 @@ module _ (p : Protocol) (sheet : List ℕ) (rows : ℕ) where
       by-refusal (λ o. (o .count ≤ rows) × (o .count ≤ 31))
       (λ e. let a = accepted-run p sheet rows e .0 in (omega (arith, a .rows-are), a .arrays-there .range .columns-high)) (λ h. (omega arith, omega arith))
 
+-- the first n entries of those in 31 places
+pub in-places : (p : Protocol) (sheet : List ℕ) → listOf (entryAt (inPlaces p sheet (ended p sheet))) (columns sheet) ≡ entries p sheet
+unfolding inPlaces entries
+in-places p sheet =
+    listOf-same (entryAt (inPlaces p sheet (ended p sheet))) (entryIn p sheet (ended p sheet)) (columns sheet) (λ i l.
+    List·getD-append (listOf (entryIn p sheet (ended p sheet)) (columns sheet)) (drop (columns sheet) (replicate 31 (markOnly 0))) noEntry i (omega (arith, length-listOf (entryIn p sheet (ended p sheet)) (columns sheet)))
+    ∙ getD-listOf (entryIn p sheet (ended p sheet)) (columns sheet) i noEntry l)
+
 -- the row that is filled is the row after the run
 pub filled-is : (p : Protocol) (sheet : List ℕ) (row : List Entry) → filled (outcomes p sheet (length row)) row ≡ rowAfter p sheet row
-unfolding filled settled refused rowAfter inPlaces entries
+unfolding filled settled refused rowAfter
 filled-is p sheet row =
     by-refusal p sheet (length row) (λ o. listOf (entryAt (o .entries)) (o .count) ++ drop (o .count) row ≡ rowAfter p sheet row)
     (λ e.
     let a = accepted-run p sheet (length row) e .0 in
-    listOf-done (entryAt (inPlaces p sheet (ended p sheet))) (columns sheet) row (omega (arith, a .rows-are))
-    ∙ listOf-same (entryAt (inPlaces p sheet (ended p sheet))) (entryIn p sheet (ended p sheet)) (columns sheet) (λ i l.
-    List·getD-append (listOf (entryIn p sheet (ended p sheet)) (columns sheet)) (drop (columns sheet) (replicate 31 (markOnly 0))) noEntry i (omega (arith, length-listOf (entryIn p sheet (ended p sheet)) (columns sheet)))
-    ∙ getD-listOf (entryIn p sheet (ended p sheet)) (columns sheet) i noEntry l)
+    listOf-done (entryAt (inPlaces p sheet (ended p sheet))) (columns sheet) row (omega (arith, a .rows-are)) ∙ in-places p sheet
     ∙ sym (simp (eq-eqb (refusal p sheet (length row)) 0 e)))
     (λ h. sym (listOf-none (entryAt (replicate 31 (markOnly 0))) row) ∙ sym (simp (ne-eqb (refusal p sheet (length row)) 0 h)))

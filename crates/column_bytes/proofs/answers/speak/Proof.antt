@@ -1,0 +1,62 @@
+-- `answers::speak` meets its contract.
+use borrow.Author.Needs.{needs}
+use mathlib.Core.Path.{refl, sym, ap, _∙_}
+use borrow.Author.Tests.{not-true, not-false}
+use Rattle.agreement.specs.declared.Column.{Column}
+use Rattle.agreement.specs.Calls.{speak, written}
+use Rattle.column_bytes.specs.Calls.{speakAnswer, speakState, speakOut}
+use Rattle.column_bytes.specs.Laws.{no-state, left-by-11, fits-state}
+use Rattle.column_bytes.proofs.answers.speak.Statement.{statement}
+use Rattle.column_bytes.proofs.answers.speak.Tie as tie
+
+is-state-requires : tie.Need-is-state-requires
+is-state-requires c κs = search needs
+
+same-length : tie.Need-same-length
+same-length c = search needs
+
+returns : tie.Need-returns
+unfolding speakAnswer speakState speakOut
+returns c =
+    let s = sym (c .before .is-state .ensures) ∙ not-true _ (c .if1 .taken) in
+    let e = no-state _ _ _ s in
+    (sym e, sym (left-by-11 _ _ _ e), rw s refl)
+
+decode-requires : tie.Need-decode-requires
+decode-requires c κs = search needs
+
+speak-requires : tie.Need-speak-requires
+speak-requires c κs = search needs
+
+keep-requires : tie.Need-keep-requires
+keep-requires c κs = search needs
+
+same-length-2 : tie.Need-same-length-2
+same-length-2 c = search needs
+
+same-length-3 : tie.Need-same-length-3
+same-length-3 c = search needs
+
+returns-2 : tie.Need-returns-2
+unfolding speakAnswer speakState speakOut
+returns-2 c =
+    let a = c .before .before .before .before .before .before .before .before .before .before .before .before .before .before .before .args in
+    let s = sym (c .before .before .before .before .before .before .before .before .before .before .before .is-state .ensures) ∙ not-false _ (c .before .before .before .before .before .before .before .before .before .before .if1 .left) in
+    let column = c .before .before .before .before .before .before .before .before .decode .ensures in
+    let answered = c .before .before .before .before .before .before .speak .ensures .0 ∙ ap (λ (k : Column). speak (a .protocol) k (a .out .now)) column in
+    let (answer, state) = rw (answered, fits-state _ _ _ s) at (c .before .before .keep .ensures) in
+    (answer, state, rw s (c .before .before .before .before .before .before .speak .ensures .1 ∙ ap (λ (k : Column). written (a .protocol) k (a .out .now)) column))
+
+pub speak-spec : {M : Type 1} → statement M
+speak-spec =
+    tie.close
+    (tie.spec
+    is-state-requires
+    same-length
+    returns
+    decode-requires
+    speak-requires
+    keep-requires
+    same-length-2
+    same-length-3
+    returns-2)

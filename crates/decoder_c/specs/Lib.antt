@@ -1,2 +1,0 @@
--- The decoder's answer in one word, for C and Rust.
-pub mod Word

@@ -1,0 +1,108 @@
+// The parts of a state, each written through the part of the slice that starts at its place.
+use agreement::Column;
+use agreement::Outcome;
+use agreement::Stage;
+use sizes::Protocol;
+ghost use mathlib.Core.Path.{_≡_};
+ghost use lib.ListN.{length};
+ghost use Rattle.lists.specs.Lists.{listOf};
+ghost use Rattle.agreement.specs.declared.Stage.the-variants.{Ended};
+ghost use Rattle.state_bytes.specs.Layout.{posterByte, stageByte, half as halfOf, flagByte, pointByte, numbers as numbersOf, encode as encodeOf};
+
+pub(super) fn poster_byte(protocol: Protocol) -> u8
+    ensures { λ r. ⌜ r ≡ posterByte protocol ⌝ }
+{
+    match protocol {
+        Protocol::Agreement => 0,
+        Protocol::Posting(poster) => poster,
+    }
+}
+
+fn ended_byte(outcome: Outcome) -> u8
+    ensures { λ r. ⌜ r ≡ stageByte (Ended outcome) ⌝ }
+{
+    match outcome {
+        Outcome::Nothing => 2,
+        Outcome::Record => 3,
+    }
+}
+
+fn stage_byte(stage: Stage) -> u8
+    ensures { λ r. ⌜ r ≡ stageByte stage ⌝ }
+{
+    match stage {
+        Stage::Speak(_) => 0,
+        Stage::Listen(_) => 1,
+        Stage::Ended(outcome) => ended_byte(outcome),
+    }
+}
+
+// The low byte of a number at an even place, the high one at an odd.
+fn half(v: u16, q: usize) -> u8
+    ensures { λ r. ⌜ r ≡ halfOf v q ⌝ }
+{
+    if q % 2 == 0 {
+        return (v % 256) as u8;
+    }
+    (v / 256) as u8
+}
+
+fn numbers(protocol: Protocol, column: Column) -> [u8; 12]
+    ensures { λ r. ⌜ r ≡ numbersOf protocol column ⌝ }
+{
+    let stage = column.stage;
+    [
+        1,
+        poster_byte(protocol),
+        column.n,
+        column.m,
+        column.own,
+        stage_byte(stage),
+        refusals::round_of(stage),
+        column.grade,
+        column.vote,
+        messages::flag(column.firm),
+        half(column.proposal, 0),
+        half(column.proposal, 1),
+    ]
+}
+
+fn flag_bytes(flags: [bool; 31]) -> [u8; 31]
+    ensures { λ r. ⌜ r ≡ listOf (flagByte flags) 31 ⌝ }
+{
+    let mut bytes = [0u8; 31];
+    for i in 0..31 {
+        bytes[i] = messages::flag(flags[i]);
+    }
+    bytes
+}
+
+fn point_bytes(kept: [u16; 32]) -> [u8; 64]
+    ensures { λ r. ⌜ r ≡ listOf (pointByte kept) 64 ⌝ }
+{
+    let mut bytes = [0u8; 64];
+    for q in 0..64 {
+        bytes[q] = half(kept[q / 2], q);
+    }
+    bytes
+}
+
+// The whole state, part by part.
+pub(super) fn all(protocol: Protocol, column: Column, state: &mut [u8])
+    requires { ⌜ length (now state) ≡ 170 ⌝ }
+    ensures { λ _. ⌜ now (state .exit) ≡ encodeOf protocol column ⌝ }
+{
+    let numbers = numbers(protocol, column);
+    let bytes = column.bytes;
+    let agreements = column.agreements;
+    let reports = column.reports;
+    let kept = column.kept;
+    let agreement_bytes = flag_bytes(agreements);
+    let report_bytes = flag_bytes(reports);
+    let kept_bytes = point_bytes(kept);
+    messages::put(&numbers, state);
+    messages::put(&bytes, &mut state[12..]);
+    messages::put(&agreement_bytes, &mut state[44..]);
+    messages::put(&report_bytes, &mut state[75..]);
+    messages::put(&kept_bytes, &mut state[106..]);
+}

@@ -1,0 +1,181 @@
+/*
+ * A column of a parcel locker wall, for C.
+ *
+ * The columns of a wall agree on one record, though some of them may be unsound and tell every neighbour something else in every
+ * round. A program makes a column once (column_fresh), then in each round lets it speak (column_speak), carries the messages, and
+ * lets it listen (column_listen); after the last round it asks what the column ended on (column_outcome). In a posting one column
+ * posts its record to all others; the calls are the same, posting_fresh to posting_outcome.
+ *
+ * Link with libcolumn_bytes.a, which `rt staticlib column_bytes` writes to target/staticlib/. Every function here is proved to do
+ * what is said of it for every input (crates/column_bytes); what is not proved is this file, so firmware/run tests it.
+ *
+ * Who owns what. All memory is the caller's, and the library keeps no pointer past a call: it allocates nothing and has no
+ * variables of its own, so calls on different states may run at the same time. A slice is a pointer and then a length, the number
+ * of its elements. A pointer is never NULL and stays readable, or writable where it is not const, for the whole length; the
+ * slices of one call do not overlap. Nothing else is asked: any length and any contents are answered.
+ *
+ * Answers. Each call answers 0, or the number of a refusal (enum column_refusal). A refused call has written to no slice, the state
+ * included, and can be made again with better arguments.
+ */
+#ifndef COLUMN_H
+#define COLUMN_H
+
+#include <assert.h>
+#include <stddef.h>
+#include <stdint.h>
+
+#ifdef __cplusplus
+extern "C" {
+#define COLUMN_ASSERT static_assert
+#else
+#define COLUMN_ASSERT _Static_assert
+#endif
+
+/* What a value of a message is when nothing is said. */
+#define COLUMN_BLANK 65535
+
+/* The lengths of slices: a state, an entry, and what column_decode writes. */
+#define COLUMN_STATE_BYTES 170
+#define COLUMN_ENTRY_BYTES 36
+#define COLUMN_COEFFICIENTS 4
+
+/* The largest wall, the longest record, and the longest slice of messages that a round can have: the first of a posting, 31 times 32. */
+#define COLUMN_MOST_COLUMNS 31
+#define COLUMN_MOST_BYTES 32
+#define COLUMN_MOST_VALUES 992
+
+/* The rounds of a posting; column_rounds gives those of an agreement. */
+#define POSTING_ROUNDS 6
+
+/* A variable that is all bytes, as a slice: column_speak(COLUMN_BYTES(state), out, len). */
+#define COLUMN_BYTES(variable) ((uint8_t *)&(variable)), sizeof(variable)
+
+/*
+ * Why a call was refused. Where several reasons hold, the first of this order is told: a state's (11, 10, 7, 8, 9), then the
+ * input's (1, 2, 3, 4, 5, 6). A sheet has its own order, see column_wall.
+ */
+enum column_refusal {
+    COLUMN_DONE = 0,
+    COLUMN_BAD_WALL = 1,     /* n is not 4 to 31 */
+    COLUMN_BAD_RECORD = 2,   /* m is not 1 to 32 */
+    COLUMN_BAD_NUMBER = 3,   /* a column's number is not 1 to n */
+    COLUMN_BAD_LENGTH = 4,   /* a slice has not the length that the call asks for */
+    COLUMN_BAD_MARK = 5,     /* a mark of a sheet is neither 0 nor 1 */
+    COLUMN_TOO_MANY = 6,     /* a sheet marks more than (n - 1) / 3 columns as unsound */
+    COLUMN_MUST_LISTEN = 7,  /* asked to speak, but it spoke in this round and has to listen */
+    COLUMN_MUST_SPEAK = 8,   /* asked to listen, but it has not spoken in this round */
+    COLUMN_NOT_ENDED = 9,    /* asked for the outcome before the end */
+    COLUMN_ENDED = 10,       /* asked to speak or listen after the end */
+    COLUMN_NO_STATE = 11     /* the bytes are no state, or one of the other protocol, or a number in them is out of its range */
+};
+
+/* What a column is to do next. */
+enum column_stage {
+    COLUMN_TO_SPEAK = 0,
+    COLUMN_TO_LISTEN = 1,
+    COLUMN_ENDED_ON_NONE = 2,
+    COLUMN_ENDED_ON_RECORD = 3
+};
+
+/*
+ * A column's state, version 1: 170 bytes, no padding. A program needs none of these names to run a column: it lends the bytes and may
+ * store them, send them and read them. A 16-bit number is two bytes, the low one first. Flags are 0 or 1, and lie by column number: the
+ * flag of column j is at place j - 1.
+ */
+struct column_state {
+    uint8_t version;        /*   0: 1 */
+    uint8_t poster;         /*   1: the poster's number, 0 in an agreement */
+    uint8_t n;              /*   2: columns of the wall */
+    uint8_t m;              /*   3: bytes of a record */
+    uint8_t own;            /*   4: the column's own number */
+    uint8_t stage;          /*   5: enum column_stage */
+    uint8_t round;          /*   6: counted from 1; 0 after the end */
+    uint8_t grade;          /*   7: 0, 1 or 2, from the third round of dispersal on */
+    uint8_t vote;           /*   8: 0 or 1 */
+    uint8_t firm;           /*   9: a flag */
+    uint8_t proposal[2];    /*  10: 0, 1 or blank */
+    uint8_t record[32];     /*  12: zeros past m */
+    uint8_t agreements[31]; /*  44: flags */
+    uint8_t reports[31];    /*  75: flags */
+    uint8_t kept[32][2];    /* 106: a point or blank for each block */
+};
+COLUMN_ASSERT(sizeof(struct column_state) == COLUMN_STATE_BYTES, "a state has 170 bytes");
+COLUMN_ASSERT(offsetof(struct column_state, kept) == 106, "the kept points start at byte 106");
+
+/* What a column came to. Of an unsound column of a sheet only the mark is set. */
+struct column_entry {
+    uint8_t mark;       /* 0 sound, 1 unsound */
+    uint8_t grade;      /* 0, 1 or 2: the grade of dispersal, in a posting that of the outcome */
+    uint8_t vote;       /* the last vote, 0 or 1 */
+    uint8_t has_record; /* 1: ended on `record`; 0: ended on none, and `record` is zeros */
+    uint8_t record[32]; /* zeros past m */
+};
+COLUMN_ASSERT(sizeof(struct column_entry) == COLUMN_ENTRY_BYTES, "an entry has 36 bytes");
+
+/* AN AGREEMENT */
+
+/* The rounds of a wall of n columns: 3 t + 8, where t is (n - 1) / 3. */
+size_t column_rounds(uint32_t n);
+
+/* The values of one message in a round, counted from 1. The slices of that round have n times as many. */
+size_t column_values(uint32_t n, uint32_t m, uint32_t round);
+
+/*
+ * Makes column `own` of a wall of n columns with a record of m bytes, and writes its state.
+ * record_len is m, state_len COLUMN_STATE_BYTES. Refused with 1, 2, 3, 4.
+ */
+uint8_t column_fresh(uint32_t n, uint32_t m, uint32_t own, const uint8_t *record, size_t record_len, uint8_t *state, size_t state_len);
+
+/*
+ * Writes the messages of the round: one for each column, itself included, by column number, each column_values(n, m, round) values long.
+ * out_len is n times that; state_len is COLUMN_STATE_BYTES. Refused with 11, 10, 7, 4.
+ */
+uint8_t column_speak(uint8_t *state, size_t state_len, uint16_t *out, size_t out_len);
+
+/*
+ * Reads the messages of the round: one from each column, by column number, in a slice as long as column_speak's. Whatever is not a legal value
+ * counts as blank, and what lies at the column's own place is not read. Refused with 11, 10, 8, 4.
+ */
+uint8_t column_listen(uint8_t *state, size_t state_len, const uint16_t *inbox, size_t inbox_len);
+
+/*
+ * Writes what the column ended on, a struct column_entry with the mark 0. out_len is COLUMN_ENTRY_BYTES. Refused with 11, 9, 4.
+ */
+uint8_t column_outcome(const uint8_t *state, size_t state_len, uint8_t *out, size_t out_len);
+
+/*
+ * Runs a whole wall from a planner's sheet and writes a struct column_entry for each column, by column number. row_len is n times
+ * COLUMN_ENTRY_BYTES. Refused with 4 for a sheet under two bytes, then with 1, 2, then with 4 for a sheet shorter than its marks and
+ * records or a row of another length, then with 5, 6, and with 4 for a sheet of any other length.
+ */
+uint8_t column_wall(const uint8_t *sheet, size_t sheet_len, uint8_t *row, size_t row_len);
+
+/* A POSTING: column `poster` posts its record to all others. A state of one protocol is no state (11) to the other's calls. */
+
+/* The values of one message in a round, 1 to POSTING_ROUNDS. */
+size_t posting_values(uint32_t n, uint32_t m, uint32_t round);
+
+/* As column_fresh; every column is handed a record, and only the poster's is kept. */
+uint8_t posting_fresh(uint32_t n, uint32_t m, uint32_t own, uint32_t poster, const uint8_t *record, size_t record_len, uint8_t *state, size_t state_len);
+
+/* As column_speak, column_listen and column_outcome, with posting_values for column_values. */
+uint8_t posting_speak(uint8_t *state, size_t state_len, uint16_t *out, size_t out_len);
+uint8_t posting_listen(uint8_t *state, size_t state_len, const uint16_t *inbox, size_t inbox_len);
+uint8_t posting_outcome(const uint8_t *state, size_t state_len, uint8_t *out, size_t out_len);
+
+/* As column_wall, with the poster's number beside the sheet: refused with 3 too, after 1 and 2. */
+uint8_t posting_wall(uint32_t poster, const uint8_t *sheet, size_t sheet_len, uint8_t *row, size_t row_len);
+
+/* A BLOCK */
+
+/*
+ * Of n points, by column number, the polynomial of degree at most d that meets at least n - t of them, t being (n - 1) / 3 and d being t / 3: four
+ * coefficients, the constant term first and those above d zero. Where there is none, four blanks. points_len is n, out_len
+ * COLUMN_COEFFICIENTS. Refused with 1, 4.
+ */
+uint8_t column_decode(uint32_t n, const uint16_t *points, size_t points_len, uint16_t *out, size_t out_len);
+
+#ifdef __cplusplus
+}
+#endif
+#endif

@@ -1,8 +1,8 @@
 -- No call changes the lengths of a column's arrays.
-use mathlib.Core.Path.{_≡_, refl, _∙_}
+use mathlib.Core.Path.{_≡_, refl}
 use mathlib.Core.Bool.{Bool, true, false, cond}
 use mathlib.Core.List.{List, []}
-use mathlib.Core.Option.{Option, none, some}
+use mathlib.Core.Option.{none, some}
 use Prim.Native.Nat.{ℕ, _+_}
 use lib.Dec.{eqb}
 use lib.ListN.{length, replicate}
@@ -24,7 +24,7 @@ use Rattle.agreement.specs.Parts.{withStage, withBytes, withProposal, wi
 use Rattle.agreement.specs.Post.{postedBy, sentByte, postedByte, takenRecord, posted}
 use Rattle.agreement.specs.Rounds.{votesOne, spreads, message, received, outcomeOf, endsOn, kindIn, voting, recast, hears, listens}
 use Rattle.agreement.specs.Calls.{fresh, freshRefusal, answered, noColumn, roundOf, speak, speakRefusal, listen, listenRefusal, outcome}
-use Rattle.agreement.specs.Lists.{Call, Speaks, Listens, Asks, after, Item, final}
+use Rattle.agreement.specs.Lists.{Call, Speaks, Listens, Asks, after}
 
 -- as the type of a column has them
 pub record Lengths (bytes : List ℕ) (agreements reports : List Bool) (kept : List ℕ) : Type 0 where

@@ -6,20 +6,20 @@ use mathlib.Core.Bool.{Bool, true, false, cond}
 use mathlib.Core.List.{List, [], _∷_, _++_}
 use mathlib.Core.Option.{Option, none, some}
 use Prim.Native.Nat.{ℕ}
-use borrow.Author.Tests.{eqb-true, eqb-false, eq-eqb}
+use borrow.Author.Tests.{eqb-true, eqb-false}
 use lib.Dec.{eqb}
 use lib.ListN.{length, getD, take, drop, replicate}
 use Rattle.lists.specs.Lists.{bit}
 use Rattle.sizes.specs.declared.Protocol.{Protocol}
 use Rattle.sizes.specs.declared.Protocol.the-variants.{Agreement, Posting}
 use Rattle.messages.specs.Messages.{refusal, unlessRefused}
-use Rattle.messages.specs.Laws.{not-refused, if-refused, if-done}
+use Rattle.messages.specs.Laws.{not-refused, if-done}
 use Rattle.messages.specs.Wall.{Sound}
 use Rattle.agreement.specs.declared.Outcome.the-variants.{Nothing, Record}
 use Rattle.agreement.specs.declared.Reply.{Reply}
 use Rattle.agreement.specs.declared.Reply.the-variants.{Ended, Refused}
 use Rattle.agreement.specs.declared.Column.{Column}
-use Rattle.agreement.specs.Calls.{refusalOf, outcomeRefusal, ending, replyOf, outcome, refusalIn, recordIn, gradeIn}
+use Rattle.agreement.specs.Calls.{refusalOf, outcomeRefusal, ending, replyOf, outcome, refusalIn, recordIn}
 use Rattle.agreement.specs.Calls as C
 use Rattle.agreement.specs.Lists.{Call, Speaks, Listens, Asks, Item, callOf, leadingCalls, made, Run, Answers}
 use Rattle.agreement.specs.Lists as L
@@ -28,7 +28,7 @@ use Rattle.agreement.specs.Shapes.{Shaped, fresh-shaped, after-shaped}
 use Rattle.agreement.specs.Theorem.{third-demand}
 use Rattle.agreement.specs.Posting.{posts}
 use Rattle.wall_run.specs.Run.{hasRecord, gradeShown, soundEntry}
-use Rattle.state_bytes.specs.Layout.{posterByte, numbers, encode, decode, isState}
+use Rattle.state_bytes.specs.Layout.{posterByte, numbers, encode}
 use Rattle.state_bytes.specs.Inverse.{decode-encode, encode-is-state}
 use Rattle.column_bytes.specs.Calls.{entryBytes, numbered, postingOf, freshAnswer, freshState, speakAnswer, speakState, speakOut, listenAnswer, listenState, outcomeAnswer, outcomeOut}
 

@@ -35,31 +35,31 @@ int main(void)
     uint16_t mail[N][COLUMN_MOST_VALUES]; /* what each column wrote in this round, by sender */
     size_t said = 0;                      /* values of the lies that were sent in earlier rounds */
 
-    for (int i = 0; i < SOUND; i++)
+    for (uint32_t i = 0; i < SOUND; i++)
         must(column_fresh(N, M, i + 1, &held[i], M, COLUMN_BYTES(columns[i])), "column_fresh");
 
     for (uint32_t round = 1; round <= column_rounds(N); round++) {
         size_t width = column_values(N, M, round);
 
-        for (int i = 0; i < SOUND; i++)
+        for (uint32_t i = 0; i < SOUND; i++)
             must(column_speak(COLUMN_BYTES(columns[i]), mail[i], N * width), "column_speak");
-        for (int to = 0; to < N; to++)
+        for (size_t to = 0; to < N; to++)
             memcpy(&mail[N - 1][to * width], &lies[to][said], width * sizeof lies[0][0]);
         said += width;
 
-        for (int i = 0; i < SOUND; i++) {
+        for (uint32_t i = 0; i < SOUND; i++) {
             uint16_t inbox[COLUMN_MOST_VALUES];
-            for (int from = 0; from < N; from++)
+            for (size_t from = 0; from < N; from++)
                 memcpy(&inbox[from * width], &mail[from][i * width], width * sizeof inbox[0]);
             must(column_listen(COLUMN_BYTES(columns[i]), inbox, N * width), "column_listen");
         }
     }
 
     printf("wall %d %d t 1 d 0 blocks 1 rounds %zu\n", N, M, column_rounds(N));
-    for (int i = 0; i < SOUND; i++) {
+    for (uint32_t i = 0; i < SOUND; i++) {
         struct column_entry entry;
         must(column_outcome(COLUMN_BYTES(columns[i]), COLUMN_BYTES(entry)), "column_outcome");
-        printf("%d sound grade %d bit %d record ", i + 1, entry.grade, entry.vote);
+        printf("%u sound grade %d bit %d record ", i + 1, entry.grade, entry.vote);
         if (entry.has_record)
             printf("%02x\n", entry.record[0]);
         else

@@ -20,7 +20,6 @@
 #ifndef COLUMN_H
 #define COLUMN_H
 
-#include <assert.h>
 #include <stddef.h>
 #include <stdint.h>
 

@@ -23,7 +23,7 @@ pub(super) fn put_entry(entry: Entry, part: &mut [u8])
     messages::put(&bytes, &mut part[4..]);
 }
 
-// How many entries a slice of `len` bytes holds: none where it ends within one.
+// How many entries a slice holds: none where it ends within one.
 fn places(row: &[u8]) -> usize
     ensures { λ r. ⌜ r ≡ placesOf (now (row .entry)) ⌝ }
 {

@@ -1,6 +1,6 @@
 /*
  * Prints a column's state by the names of column.h, at the points of a run where each part of it has a value of its own: firmware/layout.out has what
- * the names must show. So it differs when the header moves, and when the library does.
+ * the names must show. So it differs when the header moves, and when the library does. At the end it holds the header's lengths against the library's.
  *
  * It is column 3 of 10, with a record of 5 bytes in 3 blocks. What it hears is made up here: columns 7 and 10 are silent in the exchange, column 9
  * does not report.
@@ -73,6 +73,27 @@ static void hear_blocks(const uint16_t values[BLOCKS], int count)
     must(column_listen(COLUMN_BYTES(state), slice, N * BLOCKS));
 }
 
+static size_t larger(size_t a, size_t b)
+{
+    return a < b ? b : a;
+}
+
+/* The longest slice of messages that any round of any wall has, and the last round of a posting that has messages. */
+static void lengths(void)
+{
+    size_t most = 0;
+    uint32_t last = 0;
+    for (uint32_t n = 4; n <= COLUMN_MOST_COLUMNS; n++)
+        for (uint32_t m = 1; m <= COLUMN_MOST_BYTES; m++)
+            for (uint32_t round = 1; round <= 255; round++) {
+                most = larger(most, n * larger(column_values(n, m, round), posting_values(n, m, round)));
+                if (posting_values(n, m, round) != 0 && round > last)
+                    last = round;
+            }
+    printf("longest slice %zu, in the header %d\n", most, COLUMN_MOST_VALUES);
+    printf("rounds of a posting %u, in the header %d\n", last, POSTING_ROUNDS);
+}
+
 int main(void)
 {
     static const uint8_t record[M] = {200, 100, 7, 8, 9};
@@ -126,5 +147,6 @@ int main(void)
     state = before;
     hear_blocks(constants, N);
     print("ended on a record");
+    lengths();
     return 0;
 }

@@ -21,7 +21,7 @@ use Rattle.wall_run.specs.declared.Outcomes.{Outcomes}
 use Rattle.wall_run.specs.Run.{entries, outcomes, settled}
 use Rattle.wall_run.specs.Run as W
 use Rattle.wall_run.specs.Row.{entryAt, accepted-run, outcomes-refusal, run-settled, in-places}
-use Rattle.state_bytes.specs.Layout.{isFlag, numbersFit, isState}
+use Rattle.state_bytes.specs.Layout.{isFlag, areNumbers, isState}
 use Rattle.state_bytes.specs.Writing.{Fronted, fronted-more, fronted-all}
 use Rattle.column_bytes.specs.Calls.{numbered, entryBytes, rowBytes, places, wallAnswer}
 
@@ -46,7 +46,7 @@ module _ (p : Protocol) (state : List ℕ) where
       len : length state ≡ 170
       len =
           eqb→eq (length state) 170
-          (and-left (eqb (length state) 170) (numbersFit p state) (and-left (eqb (length state) 170 && numbersFit p state) (all (isFlag state 44) 62) (passes (isState p state) s)))
+          (and-left (eqb (length state) 170) (areNumbers p state) (and-left (eqb (length state) 170 && areNumbers p state) (all (isFlag state 44) 62) (passes (isState p state) s)))
 
       go : (b : Bool) → eqb why 0 ≡ b → refusal why 1 170 (length state) ≡ why
       go true e = let z = eqb-true why 0 e in not-refused why 1 170 (length state) z len ∙ sym z

@@ -21,7 +21,7 @@ use Rattle.agreement.specs.declared.Stage.the-variants.{Speak, Listen, Ended}
 use Rattle.agreement.specs.declared.Column.{Column}
 use Rattle.agreement.specs.Calls.{roundOf}
 use Rattle.agreement.specs.Shapes.{Shaped}
-use Rattle.state_bytes.specs.Layout.{posterByte, stageByte, half, flagByte, pointByte, numbers, encode, stageOf, byteFrom, flagFrom, wordFrom, decode, stageFits, isFlag, numbersFit, isState}
+use Rattle.state_bytes.specs.Layout.{posterByte, stageByte, half, flagByte, pointByte, numbers, encode, stageOf, byteFrom, flagFrom, wordFrom, decode, isStage, isFlag, areNumbers, isState}
 
 -- FLAGS, NUMBERS OF 16 BITS, STAGES
 
@@ -53,15 +53,15 @@ stage-read (Listen round) = refl
 stage-read (Ended Nothing) = refl
 stage-read (Ended Record) = refl
 
-stage-fits : (s : Stage) → stageFits (stageByte s) (roundOf s) ≡ true
-unfolding stageFits stageByte roundOf
-stage-fits (Speak round) = refl
-stage-fits (Listen round) = refl
-stage-fits (Ended Nothing) = refl
-stage-fits (Ended Record) = refl
+is-stage : (s : Stage) → isStage (stageByte s) (roundOf s) ≡ true
+unfolding isStage stageByte roundOf
+is-stage (Speak round) = refl
+is-stage (Listen round) = refl
+is-stage (Ended Nothing) = refl
+is-stage (Ended Record) = refl
 
-stage-written : (stage round : ℕ) → T (stageFits stage round) → (stageByte (stageOf stage round) ≡ stage) × (roundOf (stageOf stage round) ≡ round)
-unfolding stageFits stageOf stageByte roundOf
+stage-written : (stage round : ℕ) → T (isStage stage round) → (stageByte (stageOf stage round) ≡ stage) × (roundOf (stageOf stage round) ≡ round)
+unfolding isStage stageOf stageByte roundOf
 stage-written zero round t = (refl, refl)
 stage-written (suc zero) round t = (refl, refl)
 stage-written (suc (suc zero)) round t = (refl, sym (eqb→eq round 0 t))
@@ -158,9 +158,9 @@ module _ (p : Protocol) (c : Column) (s : Shaped c) where
   unfolding word encode numbers half
   proposal-read = omega arith
 
-  numbers-fit : numbersFit p (encode p c) ≡ true
-  unfolding numbersFit isFlag encode numbers
-  numbers-fit = simp (eq-eqb (posterByte p) (posterByte p) refl, stage-fits (c .stage), flag-small (c .firm))
+  are-numbers : areNumbers p (encode p c) ≡ true
+  unfolding areNumbers isFlag encode numbers
+  are-numbers = simp (eq-eqb (posterByte p) (posterByte p) refl, is-stage (c .stage), flag-small (c .firm))
 
   flag-fits : (i : ℕ) → i < 62 → T (isFlag (encode p c) 44 i)
   unfolding isFlag byteFrom flagByte
@@ -193,7 +193,7 @@ decode-encode p c s =
 pub encode-is-state : (p : Protocol) (c : Column) → Shaped c → isState p (encode p c) ≡ true
 unfolding isState
 encode-is-state p c s =
-    simp (eq-eqb _ 170 (length-encode p c s), numbers-fit p c s, is-true (all (isFlag (encode p c) 44) 62) (each-all _ 62 (flag-fits p c s)))
+    simp (eq-eqb _ 170 (length-encode p c s), are-numbers p c s, is-true (all (isFlag (encode p c) 44) 62) (each-all _ 62 (flag-fits p c s)))
 
 -- READ AND WRITTEN BACK
 
@@ -220,10 +220,10 @@ module _ (state : List ℕ) where
       go (yes l) = low-written _ _ q (b (106 + 2 * (q / 2))) (omega arith) ∙ ap entry (omega arith)
       go (no l) = high-written _ _ q (b (106 + 2 * (q / 2))) (λ e. omega arith) ∙ ap entry (omega arith)
 
-  numbers-written : (p : Protocol) → Below 256 state → T (numbersFit p state) → numbers p (decode state) ≡ listOf entry 12
-  unfolding numbers decode word listOf numbersFit isFlag
+  numbers-written : (p : Protocol) → Below 256 state → T (areNumbers p state) → numbers p (decode state) ≡ listOf entry 12
+  unfolding numbers decode word listOf areNumbers isFlag
   numbers-written p b t =
-      let stages : T (stageFits (entry 5) (entry 6)) = search conj in
+      let stages : T (isStage (entry 5) (entry 6)) = search conj in
       let version : entry 0 ≡ 1 = eqb→eq (entry 0) 1 (search conj) in
       let poster : entry 1 ≡ posterByte p = eqb→eq (entry 1) (posterByte p) (search conj) in
       let firm : bit (eqb (entry 9) 1) ≡ entry 9 = flag-written (entry 9) (ltb→lt (entry 9) 2 (search conj)) in
@@ -244,7 +244,7 @@ module _ (state : List ℕ) where
 pub encode-decode : (p : Protocol) (state : List ℕ) → Below 256 state → isState p state ≡ true → encode p (decode state) ≡ state
 unfolding isState isFlag encode decode byteFrom
 encode-decode p state b h =
-    let t : T (eqb (length state) 170 && numbersFit p state && all (isFlag state 44) 62) = passes _ h in
+    let t : T (eqb (length state) 170 && areNumbers p state && all (isFlag state 44) 62) = passes _ h in
     let flag : (i : ℕ) → i < 62 → getD state (44 + i) 0 < 2 = λ i l. ltb→lt (getD state (44 + i) 0) 2 (all-each (isFlag state 44) 62 (search conj) i l) in
     rw (
       numbers-written state p b (search conj),

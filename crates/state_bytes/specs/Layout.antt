@@ -91,16 +91,17 @@ decode state =
 -- WHICH BYTES ARE A STATE. One that is out of its ranges is one too: the call that it is handed to refuses it
 
 -- there is no round after the end
-unfoldable pub stageFits : ℕ → ℕ → Bool
-stageFits stage round = cond (ltb stage 2) true (ltb stage 4 && eqb round 0)
+unfoldable pub isStage : ℕ → ℕ → Bool
+isStage stage round = cond (ltb stage 2) true (ltb stage 4 && eqb round 0)
 
 unfoldable pub isFlag : List ℕ → ℕ → ℕ → Bool
 isFlag state at i = ltb (getD state (at + i) 0) 2
 
-unfoldable pub numbersFit : Protocol → List ℕ → Bool
-numbersFit p state =
-    eqb (getD state 0 0) 1 && eqb (getD state 1 0) (posterByte p) && stageFits (getD state 5 0) (getD state 6 0) && isFlag state 9 0
+-- the first twelve bytes: version, poster, stage and firmness; of the others every byte is a number
+unfoldable pub areNumbers : Protocol → List ℕ → Bool
+areNumbers p state =
+    eqb (getD state 0 0) 1 && eqb (getD state 1 0) (posterByte p) && isStage (getD state 5 0) (getD state 6 0) && isFlag state 9 0
 
 -- agreements and reports lie behind each other
 unfoldable pub isState : Protocol → List ℕ → Bool
-isState p state = eqb (length state) 170 && numbersFit p state && all (isFlag state 44) 62
+isState p state = eqb (length state) 170 && areNumbers p state && all (isFlag state 44) 62

@@ -54,8 +54,8 @@ pub fn is_state(protocol: Protocol, state: &[u8]) -> bool
     if state.len() != 170 {
         return false;
     }
-    if !reading::numbers_fit(protocol, state) {
+    if !reading::are_numbers(protocol, state) {
         return false;
     }
-    reading::flags_fit(state, 44)
+    reading::are_flags(state, 44)
 }

@@ -6,7 +6,7 @@ use sizes::Protocol;
 ghost use mathlib.Core.Path.{_≡_};
 ghost use Prim.Native.Nat.{_≤_};
 ghost use Rattle.lists.specs.Lists.{all, listOf};
-ghost use Rattle.state_bytes.specs.Layout.{stageOf, byteFrom, flagFrom, wordFrom, stageFits, isFlag as isFlagOf, numbersFit};
+ghost use Rattle.state_bytes.specs.Layout.{stageOf, byteFrom, flagFrom, wordFrom, isStage, isFlag as isFlagOf, areNumbers};
 
 pub(super) fn stage(stage: u8, round: u8) -> Stage
     ensures { λ r. ⌜ r ≡ stageOf stage round ⌝ }
@@ -57,8 +57,8 @@ pub(super) fn words(state: &[u8], at: usize) -> [u16; 32]
 }
 
 // There is no round after the end.
-fn stage_fits(stage: u8, round: u8) -> bool
-    ensures { λ r. ⌜ r ≡ stageFits stage round ⌝ }
+fn is_stage(stage: u8, round: u8) -> bool
+    ensures { λ r. ⌜ r ≡ isStage stage round ⌝ }
 {
     if stage < 2 {
         return true;
@@ -76,8 +76,8 @@ fn is_flag(state: &[u8], at: usize, i: usize) -> bool
     messages::byte(state, at + i) < 2
 }
 
-pub(super) fn numbers_fit(protocol: Protocol, state: &[u8]) -> bool
-    ensures { λ r. ⌜ r ≡ numbersFit protocol (now (state .entry)) ⌝ }
+pub(super) fn are_numbers(protocol: Protocol, state: &[u8]) -> bool
+    ensures { λ r. ⌜ r ≡ areNumbers protocol (now (state .entry)) ⌝ }
 {
     if messages::byte(state, 0) != 1 {
         return false;
@@ -85,14 +85,14 @@ pub(super) fn numbers_fit(protocol: Protocol, state: &[u8]) -> bool
     if messages::byte(state, 1) != writing::poster_byte(protocol) {
         return false;
     }
-    if !stage_fits(messages::byte(state, 5), messages::byte(state, 6)) {
+    if !is_stage(messages::byte(state, 5), messages::byte(state, 6)) {
         return false;
     }
     is_flag(state, 9, 0)
 }
 
 // Agreements and reports lie behind each other, 62 flags.
-pub(super) fn flags_fit(state: &[u8], at: usize) -> bool
+pub(super) fn are_flags(state: &[u8], at: usize) -> bool
     requires { ⌜ at ≤ 106 ⌝ }
     ensures { λ r. ⌜ r ≡ all (isFlagOf (now (state .entry)) at) 62 ⌝ }
 {

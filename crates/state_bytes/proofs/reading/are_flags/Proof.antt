@@ -1,10 +1,10 @@
--- `reading::flags_fit` meets its contract.
+-- `reading::are_flags` meets its contract.
 use Prim.Native.Nat.{_-_}
 use native.Mathlib.Omega.{arith}
 use Rattle.lists.specs.Loops.{Checked, checked-none, checked-more, checked-fails, checked-done}
 use Rattle.state_bytes.specs.Layout.{isFlag}
-use Rattle.state_bytes.proofs.reading.flags_fit.Statement.{statement}
-use Rattle.state_bytes.proofs.reading.flags_fit.Tie as tie
+use Rattle.state_bytes.proofs.reading.are_flags.Statement.{statement}
+use Rattle.state_bytes.proofs.reading.are_flags.Tie as tie
 
 abbrev Inv-loop : tie.InvT-loop
 Inv-loop state at i₀ i = Checked (isFlag state at) 62 i
@@ -33,8 +33,8 @@ loop-again c = checked-more _ _ _ _ (c .before .before .before .loop .inv) (omeg
 returns-2 : tie.Need-returns-2 Inv-loop μ-loop
 returns-2 c = checked-done _ _ _ (c .before .loop .inv) (omega arith)
 
-pub flags-fit-spec : {M : Type 1} → statement M
-flags-fit-spec =
+pub are-flags-spec : {M : Type 1} → statement M
+are-flags-spec =
     tie.close
     (tie.spec
     Inv-loop

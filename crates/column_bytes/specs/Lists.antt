@@ -1,6 +1,6 @@
 -- A list of calls on bytes is one of calls on columns: each call answers the same, writes the same slice and leaves the bytes of the state that the
--- other leaves (`same-refusal`, `same-slice`, `same-final`). So the third demand and Definition 3.10, proved in `agreement` of lists of calls on
--- columns, are proved of these (`bytes-agree`, `bytes-posted`).
+-- other leaves (`same-refusal`, `same-slice`, `same-final`), at every place of every list (`same-answers`, `same-writes`, `same-grade`). So the third
+-- demand and Definition 3.10, proved in `agreement` of lists of calls on columns, are proved of these (`bytes-agree`, `bytes-posted`).
 use mathlib.Core.Path.{_≡_, refl, sym, ap, _∙_}
 use mathlib.Core.Bool.{Bool, true, false, cond}
 use mathlib.Core.List.{List, [], _∷_, _++_}
@@ -151,7 +151,7 @@ module _ (p : Protocol) (m : ℕ) (c : Column) (value : Option (List ℕ)) (row 
   unfolding entryBytes soundEntry
   told-grade = rw entry-is refl
 
--- at any place behind the last leading call of column i's list, with slices of the right lengths: the state on bytes
+-- AT EVERY PLACE OF A LIST: column i was made in a slice of a state's length, and the calls `before` were made
 module _ (p : Protocol) (n m : ℕ) (held : ℕ → List ℕ) (i : ℕ) (slot : List ℕ) (before : List Item) where
   abbrev pub stateAt : List ℕ
   stateAt = final p (freshState p n m i (held i) slot) before
@@ -165,6 +165,19 @@ module _ (p : Protocol) (n m : ℕ) (held : ℕ → List ℕ) (i : ℕ) (slot : 
   at-shaped : Shaped (L.final p (made p n m held i) before)
   unfolding made
   at-shaped = final-shaped p (C.fresh p n m i (held i) .column) before (fresh-shaped p n m i (held i))
+
+  -- the premises of a run speak of what is refused and what is written: of both they are the same
+  module _ (e : refusalOf (C.fresh p n m i (held i) .answer) ≡ 0) (l : length slot ≡ 170) where
+    pub same-answers : (call : Call) → refusalAt p stateAt call ≡ L.refusalAt p (L.final p (made p n m held i) before) call
+    same-answers call = rw (at-is e l) (same-refusal p (L.final p (made p n m held i) before) at-shaped call)
+
+    pub same-writes : (out : List ℕ) → speakOut (runs p stateAt) stateAt out ≡ C.written p (L.final p (made p n m held i) before) out
+    same-writes out = rw (at-is e l) (same-slice p (L.final p (made p n m held i) before) at-shaped out)
+
+    -- the grade, which the third demand speaks of after round 3
+    pub same-grade : getD stateAt 7 0 ≡ L.final p (made p n m held i) before .grade
+    unfolding encode numbers
+    same-grade = rw (at-is e l) refl
 
 -- THE THIRD DEMAND, of these calls: wherever a sound column is asked behind its last leading call, it answers, and its entry tells the outcome that
 -- `third-demand` speaks of

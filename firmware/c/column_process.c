@@ -33,16 +33,14 @@ static uint32_t number(const char *text)
 
 static size_t bytes_of(const char *hex, uint8_t *bytes, size_t room)
 {
-    size_t count = strlen(hex) / 2;
-    if (strlen(hex) % 2 != 0 || count > room)
+    size_t digits = strlen(hex);
+    if (digits % 2 != 0 || digits / 2 > room || strspn(hex, "0123456789abcdefABCDEF") != digits)
         stop("the record is not at most 32 bytes of two hexadecimal digits");
-    for (size_t i = 0; i < count; i++) {
-        unsigned v;
-        if (sscanf(&hex[2 * i], "%2x", &v) != 1)
-            stop("the record has a letter that is no hexadecimal digit");
-        bytes[i] = (uint8_t)v;
+    for (size_t i = 0; i < digits / 2; i++) {
+        char byte[3] = {hex[2 * i], hex[2 * i + 1], '\0'};
+        bytes[i] = (uint8_t)strtoul(byte, NULL, 16);
     }
-    return count;
+    return digits / 2;
 }
 
 static void send(const uint16_t *values, size_t count)

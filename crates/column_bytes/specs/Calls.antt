@@ -91,8 +91,8 @@ coefficientsOf (Polynomial c) = four c
 coefficientsOf Nothing = replicate 4 blank
 coefficientsOf (Refused why) = replicate 4 blank
 
-unfoldable pub decodeAnswer : ℕ → List ℕ → List ℕ → ℕ
-decodeAnswer n points out = refusal (D.refusalOf (decoded n points)) 1 4 (length out)
+unfoldable pub blockAnswer : ℕ → List ℕ → List ℕ → ℕ
+blockAnswer n points out = refusal (D.refusalOf (decoded n points)) 1 4 (length out)
 
-unfoldable pub decodeOut : ℕ → List ℕ → List ℕ → List ℕ
-decodeOut n points out = unlessRefused (decodeAnswer n points out) (coefficientsOf (decoded n points)) out
+unfoldable pub blockOut : ℕ → List ℕ → List ℕ → List ℕ
+blockOut n points out = unlessRefused (blockAnswer n points out) (coefficientsOf (decoded n points)) out

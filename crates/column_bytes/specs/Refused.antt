@@ -9,7 +9,7 @@ use Rattle.agreement.specs.Calls.{written}
 use Rattle.agreement.specs.Lists.{refusalAt}
 use Rattle.agreement.specs.Turns.{refused-slice}
 use Rattle.state_bytes.specs.Layout.{decode, isState}
-use Rattle.column_bytes.specs.Calls.{numbered, freshAnswer, freshState, speakAnswer, speakState, speakOut, listenAnswer, listenState, outcomeAnswer, outcomeOut, wallAnswer, wallRow, decodeAnswer, decodeOut}
+use Rattle.column_bytes.specs.Calls.{numbered, freshAnswer, freshState, speakAnswer, speakState, speakOut, listenAnswer, listenState, outcomeAnswer, outcomeOut, wallAnswer, wallRow, blockAnswer, blockOut}
 
 module _ (p : Protocol) where
   pub fresh-refused : (n m own : ℕ) (bytes state : List ℕ) → (freshAnswer p n m own bytes state ≡ 0 → ⊥) → freshState p n m own bytes state ≡ state
@@ -36,6 +36,6 @@ module _ (p : Protocol) where
   unfolding wallRow
   wall-refused sheet row h = if-refused _ _ row h
 
-pub decode-refused : (n : ℕ) (points out : List ℕ) → (decodeAnswer n points out ≡ 0 → ⊥) → decodeOut n points out ≡ out
-unfolding decodeOut
-decode-refused n points out h = if-refused _ _ out h
+pub block-refused : (n : ℕ) (points out : List ℕ) → (blockAnswer n points out ≡ 0 → ⊥) → blockOut n points out ≡ out
+unfolding blockOut
+block-refused n points out h = if-refused _ _ out h

@@ -4,7 +4,7 @@ use decoder::Decoded;
 use field::Field;
 ghost use mathlib.Core.Path.{_≡_};
 ghost use Rattle.decoder.specs.Decoder.{refusalOf};
-ghost use Rattle.column_bytes.specs.Calls.{narrow, coefficientsOf, decodeAnswer, decodeOut};
+ghost use Rattle.column_bytes.specs.Calls.{narrow, coefficientsOf, blockAnswer, blockOut};
 
 fn refusal(decoded: Decoded) -> u8
     ensures { λ r. ⌜ r ≡ refusalOf decoded ⌝ }
@@ -30,7 +30,7 @@ fn coefficients(decoded: Decoded) -> [u16; 4]
 // with 1, then with 4 for a slice not of n points or one for the answer not of four values.
 #[no_mangle]
 pub extern "C" fn column_decode(n: u32, points: &[u16], out: &mut [u16]) -> u8
-    ensures { λ r. ⌜ (r ≡ decodeAnswer (narrow n) (now (points .entry)) (now (out .entry))) × (now (out .exit) ≡ decodeOut (narrow n) (now (points .entry)) (now (out .entry))) ⌝ }
+    ensures { λ r. ⌜ (r ≡ blockAnswer (narrow n) (now (points .entry)) (now (out .entry))) × (now (out .exit) ≡ blockOut (narrow n) (now (points .entry)) (now (out .entry))) ⌝ }
 {
     let decoded = decoder::decode(answers::narrow(n), points);
     let why = messages::refusal(refusal(decoded), 1, 4, out.len());

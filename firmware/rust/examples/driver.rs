@@ -75,6 +75,12 @@ fn read(child: &mut Child, len: usize) -> Result<Vec<u8>> {
     Ok(bytes)
 }
 
+/// The poster's number as the program `posting_wall` reads it: 0, which is no column, for what is no decimal number.
+fn number(text: &str) -> u32 {
+    let digits = text.bytes().all(|letter| letter.is_ascii_digit());
+    if digits { text.parse().unwrap_or(0) } else { 0 }
+}
+
 fn hex(bytes: &[u8]) -> String {
     bytes.iter().map(|byte| format!("{byte:02x}")).collect()
 }
@@ -122,7 +128,7 @@ fn main() -> Result<()> {
     // Whether it is a sheet, the library knows.
     let mut row = vec![Entry::default(); usize::from(*bytes.first().unwrap_or(&0))];
     let accepted = match poster {
-        Some(poster) => posting_wall(poster.parse().unwrap_or(0), &bytes, &mut row),
+        Some(poster) => posting_wall(number(poster), &bytes, &mut row),
         None => wall(&bytes, &mut row),
     };
     if let Err(refusal) = accepted {

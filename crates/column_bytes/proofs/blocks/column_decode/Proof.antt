@@ -8,7 +8,7 @@ use lib.ListN.{length}
 use Rattle.messages.specs.Messages.{refusal}
 use Rattle.messages.specs.Laws.{if-refused, if-done, accepted}
 use Rattle.decoder.specs.Decoder.{decoded, refusalOf}
-use Rattle.column_bytes.specs.Calls.{coefficientsOf, decodeAnswer, decodeOut}
+use Rattle.column_bytes.specs.Calls.{coefficientsOf, blockAnswer, blockOut}
 use Rattle.column_bytes.specs.Laws.{written-whole}
 use Rattle.column_bytes.proofs.blocks.column_decode.Statement.{statement}
 use Rattle.column_bytes.proofs.blocks.column_decode.Tie as tie
@@ -26,7 +26,7 @@ refusal-requires-2 : tie.Need-refusal-requires-2
 refusal-requires-2 c κs = search needs
 
 returns : tie.Need-returns
-unfolding decodeAnswer decodeOut
+unfolding blockAnswer blockOut
 returns c =
     let a = c .before .before .before .before .before .before .before .args in
     let d = c .before .before .before .decode .ensures ∙ ap (λ (k : ℕ). decoded k (a .points .now)) (c .before .before .before .before .narrow .ensures) in
@@ -46,7 +46,7 @@ same-length : tie.Need-same-length
 same-length c = search needs
 
 returns-2 : tie.Need-returns-2
-unfolding decodeAnswer decodeOut
+unfolding blockAnswer blockOut
 returns-2 c =
     let a = c .before .before .before .before .before .before .before .before .before .before .before .before .before .args in
     let d = c .before .before .before .before .before .before .before .before .before .decode .ensures ∙ ap (λ (k : ℕ). decoded k (a .points .now)) (c .before .before .before .before .before .before .before .before .before .before .narrow .ensures) in

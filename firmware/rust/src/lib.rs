@@ -17,7 +17,8 @@ pub const MOST_COLUMNS: usize = 31;
 pub const MOST_BYTES: usize = 32;
 pub const MOST_VALUES: usize = 992;
 
-mod archive {
+/// The calls themselves, as include/column.h declares them, for a program that has to lend slices of any length.
+pub mod archive {
     pub type Speak = unsafe extern "C" fn(*mut u8, usize, *mut u16, usize) -> u8;
     pub type Listen = unsafe extern "C" fn(*mut u8, usize, *const u16, usize) -> u8;
     pub type Outcome = unsafe extern "C" fn(*const u8, usize, *mut u8, usize) -> u8;

@@ -1,29 +1,7 @@
-//! Gao's decoder as a programmer would write it: Newton interpolation through the points that are there, the extended
-//! Euclidean algorithm on it and the product of (x - place), one division, one count. Fixed arrays, no allocation, a
-//! table of inverses; plain loops, which the compiler optimises.
-
-const P: u32 = 257;
-
-/// The inverse of x modulo 257 stands at x.
-static INVERSE: [u32; 257] = {
-    let mut table = [0; 257];
-    let mut x = 1;
-    while x < 257 {
-        let mut power = 1;
-        let mut i = 0;
-        while i < 255 {
-            power = power * x % P;
-            i += 1;
-        }
-        table[x as usize] = power;
-        x += 1;
-    }
-    table
-};
-
-fn value(c: &[u16; 4], x: u32) -> u32 {
-    c.iter().rev().fold(0, |sum, &c| (sum * x + u32::from(c)) % P)
-}
+//! Gao's decoder: Newton interpolation through the points that are there, the extended Euclidean algorithm on it and the product of
+//! (x - place), one division, one count. Fixed arrays, no allocation, a table of inverses; plain loops, which the compiler optimises.
+use crate::field::{INVERSE, MODULUS as P, value};
+use crate::sizes::Sizes;
 
 /// A polynomial from its constant term on, and its degree; -1 for 0.
 #[derive(Clone, Copy)]
@@ -77,20 +55,20 @@ impl Poly {
     }
 }
 
-pub fn decode(n: usize, points: &[u16]) -> Option<[u16; 4]> {
-    let t = (n - 1) / 3;
-    let k = t / 3 + 1;
+/// The polynomial of degree at most d that meets at least n - t of the n points, a blank meeting none.
+pub fn decode(sizes: &Sizes, points: &[u16]) -> Option<[u16; 4]> {
+    let k = sizes.d + 1;
     let mut places = [0u32; 32];
     let mut slopes = [0u32; 32];
     let mut m = 0;
     for (i, &y) in points.iter().enumerate() {
-        if y < 257 {
+        if u32::from(y) < P {
             places[m] = i as u32 + 1;
             slopes[m] = u32::from(y);
             m += 1;
         }
     }
-    if m < n - t {
+    if m < sizes.quorum() {
         return None;
     }
     for l in 1..m {
@@ -134,6 +112,6 @@ pub fn decode(n: usize, points: &[u16]) -> Option<[u16; 4]> {
         c[shift] = factor as u16;
         r1.subtract(factor, shift, &v1);
     }
-    let met = points.iter().enumerate().filter(|&(i, &y)| value(&c, i as u32 + 1) == u32::from(y)).count();
-    (r1.degree < 0 && met >= n - t).then_some(c)
+    let met = points.iter().enumerate().filter(|&(i, &y)| value(c.iter().map(|&c| c.into()), i as u32 + 1) == y.into()).count();
+    (r1.degree < 0 && met >= sizes.quorum()).then_some(c)
 }

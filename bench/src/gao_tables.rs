@@ -1,5 +1,5 @@
 //! Gao's decoder written for the machine: Lagrange tables for the places 1 to 31 and SSE2 instructions by hand. It shows how far
-//! one can go; the one that a programmer would write is in gao.rs. For x86-64, like the library it is compared with.
+//! one can go; the one that a programmer would write is the reference's decoder. For x86-64, like the library it is compared with.
 
 use std::arch::x86_64::*;
 

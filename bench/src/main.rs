@@ -1,21 +1,19 @@
 //! The proved decoder and two of Gao's in Rust: first that they give the same answers, then how long each takes.
-mod gao;
 mod gao_tables;
 
+use reference::sizes::Sizes;
 use std::hint::black_box;
 use std::time::Instant;
 
 type Decode = fn(usize, &[u16]) -> Option<[u16; 4]>;
 
-/// The only place that knows how the library is called (include/column.h) and how it tells none: by blanks.
 fn proved(n: usize, points: &[u16]) -> Option<[u16; 4]> {
-    unsafe extern "C" {
-        fn column_decode(n: u32, points: *const u16, len: usize, out: *mut u16, room: usize) -> u8;
-    }
-    let mut out = [0; 4];
-    let refusal = unsafe { column_decode(n as u32, points.as_ptr(), points.len(), out.as_mut_ptr(), out.len()) };
-    assert_eq!(refusal, 0, "the library refused {} points for n = {n}", points.len());
-    (out[0] != 65535).then_some(out)
+    locker_column::decode(n as u32, points).expect("n points are not refused")
+}
+
+/// Plain Gao, the reference's decoder.
+fn gao(n: usize, points: &[u16]) -> Option<[u16; 4]> {
+    reference::decoder::decode(&Sizes::by_formula(n as u32, 1), points)
 }
 
 /// Xorshift, so that every run has the same inputs.
@@ -120,7 +118,7 @@ fn check(random: &mut Random) {
                     p[i] = [257, 65534, 65535, random.element()][random.below(4)];
                 }
             }
-            let (ours, gaos, tables) = (proved(n, &p), gao::decode(n, &p), gao_tables::decode(n, &p));
+            let (ours, gaos, tables) = (proved(n, &p), gao(n, &p), gao_tables::decode(n, &p));
             let meets = |c| (0..n).filter(|&i| value(&c, i) == p[i]).count();
             if ours != gaos || ours != tables || ours.is_some_and(|c| meets(c) < n - t) {
                 println!("n = {n}, points {p:?}: the proved decoder says {ours:?}, Gao's {gaos:?} and {tables:?}");
@@ -149,14 +147,14 @@ fn table(n: usize, random: &mut Random) {
     let t = faults(n);
     let inputs = cases.map(|(_, some, make)| {
         // Now and then random points do have a polynomial: those are left out.
-        let wanted = std::iter::repeat_with(|| make(t, n, random)).filter(|p| gao::decode(n, p).is_some() == some);
+        let wanted = std::iter::repeat_with(|| make(t, n, random)).filter(|p| gao(n, p).is_some() == some);
         wanted.take(INPUTS).collect::<Vec<_>>().concat()
     });
     // The repetitions of a case are far apart, so that a busy moment of the machine spoils few of them.
     let mut best = [[f64::INFINITY; 3]; 8];
     for _ in 0..REPETITIONS {
         for (best, inputs) in best.iter_mut().zip(&inputs) {
-            for (best, decode) in best.iter_mut().zip([proved as Decode, gao::decode, gao_tables::decode]) {
+            for (best, decode) in best.iter_mut().zip([proved as Decode, gao, gao_tables::decode]) {
                 let start = Instant::now();
                 for p in inputs.chunks_exact(n) {
                     black_box(decode(black_box(n), black_box(p)));

@@ -1,0 +1,159 @@
+//! The calls of include/column.h: a column's state is 170 bytes that the caller lends, a wall's entry 36.
+use crate::Refusal;
+use crate::column::{Column, Outcome, Stage};
+use crate::decoder;
+use crate::sizes::{BLANK, Protocol, Sizes};
+use crate::wall::{Entry, Sheet};
+
+pub const STATE_BYTES: usize = 170;
+pub const ENTRY_BYTES: usize = 36;
+
+/// The protocol that a state's bytes must be of.
+#[derive(Clone, Copy, PartialEq, Eq, Debug)]
+pub enum Of {
+    Agreements,
+    Postings,
+}
+
+/// 0, or the refusal's number.
+fn number(answer: Result<(), Refusal>) -> u8 {
+    answer.map_or_else(|refusal| refusal.0, |()| 0)
+}
+
+/// The state as its bytes.
+pub fn encode(column: &Column) -> [u8; STATE_BYTES] {
+    let (stage, round) = match column.stage {
+        Stage::ToSpeak(round) => (0, round),
+        Stage::ToListen(round) => (1, round),
+        Stage::EndedOnNone => (2, 0),
+        Stage::EndedOnRecord => (3, 0),
+    };
+    let poster = match column.protocol {
+        Protocol::Agreement => 0,
+        Protocol::Posting(s) => s as u8,
+    };
+    let mut bytes = vec![1, poster, column.n, column.m, column.own, stage, round, column.grade, column.vote, column.firm.into()];
+    bytes.extend(column.proposal.to_le_bytes());
+    bytes.extend(column.record);
+    bytes.extend(column.agreements.map(u8::from));
+    bytes.extend(column.reports.map(u8::from));
+    bytes.extend(column.kept.iter().flat_map(|point| point.to_le_bytes()));
+    bytes.try_into().expect("a state has 170 bytes")
+}
+
+/// The state of a protocol that bytes are, or refusal 11.
+pub fn decode(of: Of, bytes: &[u8]) -> Result<Column, Refusal> {
+    let no_state = Refusal(11);
+    let bytes: &[u8; STATE_BYTES] = bytes.try_into().map_err(|_| no_state)?;
+    let [1, poster, n, m, own, stage, round, grade, vote, firm, ..] = *bytes else { return Err(no_state) };
+    let protocol = match (of, poster) {
+        (Of::Agreements, 0) => Protocol::Agreement,
+        (Of::Postings, 1..) => Protocol::Posting(poster.into()),
+        _ => return Err(no_state),
+    };
+    let stage = match (stage, round) {
+        (0, _) => Stage::ToSpeak(round),
+        (1, _) => Stage::ToListen(round),
+        (2, 0) => Stage::EndedOnNone,
+        (3, 0) => Stage::EndedOnRecord,
+        _ => return Err(no_state),
+    };
+    let flags = &bytes[44..106];
+    if firm > 1 || flags.iter().any(|&flag| flag > 1) {
+        return Err(no_state);
+    }
+    let word = |at: usize| u16::from_le_bytes([bytes[at], bytes[at + 1]]);
+    Ok(Column {
+        protocol,
+        n,
+        m,
+        own,
+        record: std::array::from_fn(|i| bytes[12 + i]),
+        proposal: word(10),
+        stage,
+        agreements: std::array::from_fn(|j| flags[j] == 1),
+        reports: std::array::from_fn(|j| flags[31 + j] == 1),
+        grade,
+        vote,
+        firm: firm == 1,
+        kept: std::array::from_fn(|block| word(106 + 2 * block)),
+    })
+}
+
+pub fn entry_bytes(entry: &Entry) -> [u8; ENTRY_BYTES] {
+    let mut bytes = [0; ENTRY_BYTES];
+    bytes[..4].copy_from_slice(&[entry.mark, entry.grade, entry.vote, entry.record.is_some().into()]);
+    bytes[4..].copy_from_slice(&entry.record.unwrap_or([0; 32]));
+    bytes
+}
+
+/// The length of a slice for an answer is asked for after everything else.
+fn of_length(slice: usize, length: usize) -> Result<(), Refusal> {
+    if slice == length { Ok(()) } else { Err(Refusal(4)) }
+}
+
+/// The rounds of an agreement, by the formula; a number from 256 on counts as 255.
+pub fn rounds(n: u32) -> usize {
+    Sizes::by_formula(n.min(255), 1).rounds(Protocol::Agreement)
+}
+
+/// The values of a message in a round, by the formula; 0 in a round that a run does not have.
+pub fn values(protocol: Protocol, n: u32, m: u32, round: u32) -> usize {
+    let sizes = Sizes::by_formula(n.min(255), m.min(255));
+    sizes.kind(protocol, round.min(255) as usize).map_or(0, |kind| sizes.values(kind))
+}
+
+pub fn fresh(protocol: Protocol, n: u32, m: u32, own: u32, record: &[u8], state: &mut [u8]) -> u8 {
+    number(Column::fresh(protocol, n, m, own, record).and_then(|column| {
+        of_length(state.len(), STATE_BYTES)?;
+        state.copy_from_slice(&encode(&column));
+        Ok(())
+    }))
+}
+
+pub fn speak(of: Of, state: &mut [u8], out: &mut [u16]) -> u8 {
+    on_state(of, state, |column| column.speak(out))
+}
+
+pub fn listen(of: Of, state: &mut [u8], inbox: &[u16]) -> u8 {
+    on_state(of, state, |column| column.listen(inbox))
+}
+
+fn on_state(of: Of, state: &mut [u8], call: impl FnOnce(&mut Column) -> Result<(), Refusal>) -> u8 {
+    number(decode(of, state).and_then(|mut column| {
+        call(&mut column)?;
+        state.copy_from_slice(&encode(&column));
+        Ok(())
+    }))
+}
+
+pub fn outcome(of: Of, state: &[u8], out: &mut [u8]) -> u8 {
+    number(decode(of, state).and_then(|column| {
+        let Outcome { grade, vote, record } = column.outcome()?;
+        of_length(out.len(), ENTRY_BYTES)?;
+        out.copy_from_slice(&entry_bytes(&Entry { mark: 0, grade, vote, record }));
+        Ok(())
+    }))
+}
+
+/// A row whose length is no multiple of 36 holds no entry.
+pub fn wall(protocol: Protocol, bytes: &[u8], row: &mut [u8]) -> u8 {
+    let room = if row.len().is_multiple_of(ENTRY_BYTES) { row.len() / ENTRY_BYTES } else { 0 };
+    number(Sheet::read(protocol, bytes, Some(room)).and_then(|sheet| {
+        let mut entries = [Entry::default(); 31];
+        sheet.run(&mut entries)?;
+        for (bytes, entry) in row.chunks_exact_mut(ENTRY_BYTES).zip(&entries) {
+            bytes.copy_from_slice(&entry_bytes(entry));
+        }
+        Ok(())
+    }))
+}
+
+pub fn decode_block(n: u32, points: &[u16], out: &mut [u16]) -> u8 {
+    number(Sizes::of(n, 1).and_then(|sizes| {
+        of_length(points.len(), sizes.n)?;
+        of_length(out.len(), 4)?;
+        out.copy_from_slice(&decoder::decode(&sizes, points).unwrap_or([BLANK; 4]));
+        Ok(())
+    }))
+}

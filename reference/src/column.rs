@@ -1,0 +1,312 @@
+//! One column: its state, what it says and makes of what it hears in each round, and its refusals.
+use crate::Refusal;
+use crate::decoder::decode;
+use crate::field;
+use crate::sizes::{BLANK, Kind, Protocol, Sizes};
+
+/// What a column is to do next.
+#[derive(Clone, Copy, PartialEq, Eq, Debug)]
+pub enum Stage {
+    ToSpeak(u8),
+    ToListen(u8),
+    EndedOnNone,
+    EndedOnRecord,
+}
+
+/// A column's state. Any numbers can stand in it; a call refuses those out of their ranges with 11. Column j has the flag at j - 1.
+#[derive(Clone, Copy, PartialEq, Eq, Debug)]
+pub struct Column {
+    pub protocol: Protocol,
+    pub n: u8,
+    pub m: u8,
+    pub own: u8,
+    pub record: [u8; 32],
+    pub proposal: u16,
+    pub stage: Stage,
+    pub agreements: [bool; 31],
+    pub reports: [bool; 31],
+    pub grade: u8,
+    pub vote: u8,
+    pub firm: bool,
+    pub kept: [u16; 32],
+}
+
+/// What a column that ended answers: a record in 32 places, or none. In a posting the grade is the outcome's.
+#[derive(Clone, Copy, PartialEq, Eq, Debug)]
+pub struct Outcome {
+    pub grade: u8,
+    pub vote: u8,
+    pub record: Option<[u8; 32]>,
+}
+
+/// The longest message, in values.
+const LONGEST: usize = 64;
+
+impl Column {
+    /// Refused with 1, 2, 3, 4.
+    pub fn fresh(protocol: Protocol, n: u32, m: u32, own: u32, record: &[u8]) -> Result<Column, Refusal> {
+        let sizes = Sizes::of(n, m)?;
+        sizes.number(own)?;
+        sizes.poster(protocol)?;
+        if record.len() != sizes.m {
+            return Err(Refusal(4));
+        }
+        let mut column = Column {
+            protocol,
+            n: n as u8,
+            m: m as u8,
+            own: own as u8,
+            record: [0; 32],
+            proposal: BLANK,
+            stage: Stage::ToSpeak(1),
+            agreements: [false; 31],
+            reports: [false; 31],
+            grade: 0,
+            vote: u8::from(protocol != Protocol::Agreement),
+            firm: false,
+            kept: [BLANK; 32],
+        };
+        if protocol == Protocol::Agreement || protocol == Protocol::Posting(own) {
+            column.record[..sizes.m].copy_from_slice(record);
+        }
+        Ok(column)
+    }
+
+    /// Writes a message to each column. Refused with 11, 10, 7, 4.
+    pub fn speak(&mut self, out: &mut [u16]) -> Result<(), Refusal> {
+        let sizes = self.in_range()?;
+        let round = match self.stage {
+            Stage::EndedOnNone | Stage::EndedOnRecord => return Err(Refusal(10)),
+            Stage::ToListen(_) => return Err(Refusal(7)),
+            Stage::ToSpeak(round) => round,
+        };
+        let kind = sizes.kind(self.protocol, round.into()).ok_or(Refusal(11))?;
+        if out.len() != sizes.n * sizes.values(kind) {
+            return Err(Refusal(4));
+        }
+        for (to, message) in (1..).zip(out.chunks_exact_mut(sizes.values(kind))) {
+            self.say(&sizes, kind, to, message);
+        }
+        self.stage = Stage::ToListen(round);
+        Ok(())
+    }
+
+    /// Reads a message from each column. Refused with 11, 10, 8, 4.
+    pub fn listen(&mut self, inbox: &[u16]) -> Result<(), Refusal> {
+        let sizes = self.in_range()?;
+        let round = match self.stage {
+            Stage::EndedOnNone | Stage::EndedOnRecord => return Err(Refusal(10)),
+            Stage::ToSpeak(_) => return Err(Refusal(8)),
+            Stage::ToListen(round) => round,
+        };
+        let kind = sizes.kind(self.protocol, round.into()).ok_or(Refusal(11))?;
+        let values = sizes.values(kind);
+        if inbox.len() != sizes.n * values {
+            return Err(Refusal(4));
+        }
+        // For its own place it uses what it would send itself.
+        let mut own = [BLANK; LONGEST];
+        self.say(&sizes, kind, self.own.into(), &mut own[..values]);
+        let number = usize::from(self.own);
+        let from = |j: usize| if j == number { &own[..values] } else { &inbox[(j - 1) * values..j * values] };
+        let ended = self.hear(&sizes, kind, from);
+        self.stage = ended.unwrap_or(Stage::ToSpeak(round + 1));
+        Ok(())
+    }
+
+    /// Refused with 11, 9.
+    pub fn outcome(&self) -> Result<Outcome, Refusal> {
+        self.in_range()?;
+        let record = match self.stage {
+            Stage::EndedOnRecord => Some(self.record),
+            Stage::EndedOnNone => None,
+            _ => return Err(Refusal(9)),
+        };
+        let grade = match self.protocol {
+            Protocol::Agreement => self.grade,
+            Protocol::Posting(_) if self.grade == 2 => 2,
+            Protocol::Posting(_) => u8::from(record.is_some()),
+        };
+        Ok(Outcome { grade, vote: self.vote, record })
+    }
+
+    /// Refused with 11: a number out of its range.
+    fn in_range(&self) -> Result<Sizes, Refusal> {
+        let outside = |_| Refusal(11);
+        let sizes = Sizes::of(self.n.into(), self.m.into()).map_err(outside)?;
+        sizes.number(self.own.into()).map_err(outside)?;
+        sizes.poster(self.protocol).map_err(outside)?;
+        let round_fits = match self.stage {
+            Stage::ToSpeak(round) | Stage::ToListen(round) => (1..=sizes.rounds(self.protocol)).contains(&round.into()),
+            Stage::EndedOnNone | Stage::EndedOnRecord => true,
+        };
+        let fits = round_fits
+            && self.grade <= 2
+            && self.vote <= 1
+            && matches!(self.proposal, 0 | 1 | BLANK)
+            && self.record[sizes.m..].iter().all(|&byte| byte == 0)
+            && !self.agreements[sizes.n..].contains(&true)
+            && !self.reports[sizes.n..].contains(&true)
+            && self.kept[..sizes.blocks].iter().all(|&point| point <= 256 || point == BLANK)
+            && self.kept[sizes.blocks..].iter().all(|&point| point == BLANK);
+        if fits { Ok(sizes) } else { Err(Refusal(11)) }
+    }
+
+    /// The vote that the rounds are played with.
+    fn played_vote(&self) -> u8 {
+        match self.protocol {
+            Protocol::Agreement => self.vote,
+            Protocol::Posting(_) => 1,
+        }
+    }
+
+    /// The values of the record at a column's point, one per block.
+    fn values_at(&self, sizes: &Sizes, point: usize) -> impl Iterator<Item = u16> {
+        let width = sizes.d + 1;
+        (0..sizes.blocks).map(move |block| {
+            let end = (block * width + width).min(32);
+            field::value(self.record[block * width..end].iter().map(|&byte| byte.into()), point as u32) as u16
+        })
+    }
+
+    fn first_report(&self, sizes: &Sizes) -> bool {
+        (0..sizes.n).filter(|&j| self.agreements[j]).count() >= sizes.quorum()
+    }
+
+    fn second_report(&self, sizes: &Sizes) -> bool {
+        let from_agreed = (0..sizes.n).filter(|&j| self.agreements[j] && self.reports[j]).count();
+        from_agreed >= sizes.quorum() && self.reports[usize::from(self.own) - 1]
+    }
+
+    /// The message to column `to`.
+    fn say(&self, sizes: &Sizes, kind: Kind, to: usize, message: &mut [u16]) {
+        let report = |sent: bool| if sent { 1 } else { BLANK };
+        message.fill(BLANK);
+        match kind {
+            Kind::Post(s) => {
+                if s == self.own.into() {
+                    message.iter_mut().zip(self.record).for_each(|(value, byte)| *value = byte.into());
+                }
+            }
+            Kind::Exchange => {
+                let both = self.values_at(sizes, self.own.into()).chain(self.values_at(sizes, to));
+                message.iter_mut().zip(both).for_each(|(value, point)| *value = point);
+            }
+            Kind::FirstReport => message[0] = report(self.first_report(sizes)),
+            Kind::SecondReport => message[0] = report(self.second_report(sizes)),
+            Kind::Vote => message[0] = self.vote.into(),
+            Kind::Proposal => message[0] = self.proposal,
+            Kind::King(k) => {
+                if k == self.own.into() {
+                    message[0] = self.vote.into();
+                }
+            }
+            Kind::Points => {
+                if self.played_vote() == 1 && self.grade > 0 {
+                    message.iter_mut().zip(self.values_at(sizes, to)).for_each(|(value, point)| *value = point);
+                }
+            }
+            Kind::Kept => {
+                if self.played_vote() == 1 {
+                    message.copy_from_slice(&self.kept[..sizes.blocks]);
+                }
+            }
+        }
+    }
+
+    /// What the column makes of a round, where `from` has the message of each column; where it ends, on what.
+    fn hear<'a>(&mut self, sizes: &Sizes, kind: Kind, from: impl Fn(usize) -> &'a [u16]) -> Option<Stage> {
+        let times = |value: u16| (1..=sizes.n).filter(|&j| from(j)[0] == value).count();
+        match kind {
+            Kind::Post(s) => {
+                if s != self.own.into() {
+                    self.record = taken(from(s as usize));
+                }
+            }
+            Kind::Exchange => {
+                for j in 1..=sizes.n {
+                    let expected = self.values_at(sizes, j).chain(self.values_at(sizes, self.own.into()));
+                    self.agreements[j - 1] = expected.eq(from(j).iter().copied());
+                }
+            }
+            Kind::FirstReport => (1..=sizes.n).for_each(|j| self.reports[j - 1] = from(j)[0] == 1),
+            Kind::SecondReport => {
+                self.grade = match times(1) {
+                    _ if !self.second_report(sizes) => 0,
+                    received if received >= 2 * sizes.t + 1 => 2,
+                    _ => 1,
+                };
+                if self.protocol == Protocol::Agreement {
+                    self.vote = u8::from(self.grade == 2);
+                }
+            }
+            Kind::Vote => {
+                let quorum = |&bit: &u16| times(bit) >= sizes.quorum();
+                self.proposal = [0, 1].into_iter().find(quorum).unwrap_or(BLANK);
+            }
+            Kind::Proposal => {
+                let proposed = |&bit: &u8| times(bit.into()) >= sizes.t + 1;
+                self.vote = [1, 0].into_iter().find(proposed).unwrap_or(self.vote);
+                self.firm = times(self.vote.into()) >= sizes.quorum();
+            }
+            Kind::King(k) => {
+                if !self.firm {
+                    self.vote = u8::from(from(k as usize)[0] == 1);
+                }
+            }
+            Kind::Points => {
+                for block in 0..sizes.blocks {
+                    self.kept[block] = kept_point(sizes, |j| from(j)[block]);
+                }
+            }
+            Kind::Kept => {
+                let decoded = if self.played_vote() == 1 { decoded_record(sizes, from) } else { None };
+                let Some(record) = decoded else { return Some(Stage::EndedOnNone) };
+                self.record = record;
+                return Some(Stage::EndedOnRecord);
+            }
+        }
+        None
+    }
+}
+
+/// The record that a receiver takes from the poster's message.
+fn taken(message: &[u16]) -> [u8; 32] {
+    let mut record = [0; 32];
+    for (byte, &value) in record.iter_mut().zip(message) {
+        let Ok(legal) = u8::try_from(value) else { return [0; 32] };
+        *byte = legal;
+    }
+    record
+}
+
+/// The smallest point received at least t + 1 times, or blank.
+fn kept_point(sizes: &Sizes, point_from: impl Fn(usize) -> u16) -> u16 {
+    let mut times = [0; 257];
+    for j in 1..=sizes.n {
+        if let Some(times) = times.get_mut(usize::from(point_from(j))) {
+            *times += 1;
+        }
+    }
+    times.iter().position(|&times| times >= sizes.t + 1).map_or(BLANK, |point| point as u16)
+}
+
+/// The record of the decoded blocks, if each has a polynomial, of bytes, with zeros past the record's end.
+fn decoded_record<'a>(sizes: &Sizes, from: impl Fn(usize) -> &'a [u16]) -> Option<[u8; 32]> {
+    let width = sizes.d + 1;
+    let mut record = [0; 32];
+    for block in 0..sizes.blocks {
+        let mut points = [BLANK; 31];
+        (1..=sizes.n).for_each(|j| points[j - 1] = from(j)[block]);
+        let coefficients = decode(sizes, &points[..sizes.n])?;
+        for (place, &coefficient) in (block * width..).zip(&coefficients[..width]) {
+            let byte = u8::try_from(coefficient).ok()?;
+            if place < sizes.m {
+                record[place] = byte;
+            } else if byte != 0 {
+                return None;
+            }
+        }
+    }
+    Some(record)
+}

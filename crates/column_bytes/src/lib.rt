@@ -1,8 +1,8 @@
 // The column for C and Rust: calls on numbers and slices, a column's state being 170 bytes that the caller lends. Each answers 0 or document 01's
 // number of a refusal; a refused call leaves every slice as it was. include/column.h declares them.
 mod answers;
-mod blocks;
-mod columns;
-mod postings;
+pub mod blocks;
+pub mod columns;
+pub mod postings;
 mod rows;
-mod walls;
+pub mod walls;

@@ -15,10 +15,8 @@ fn protocol_of(kind: u8, poster: u8) -> Protocol {
 fn list(protocol: Protocol, sheet: &mut [u8]) {
     let got = io::read_full(STDIN_FILENO, sheet);
     let mut text = [0u8; 3200];
-    let shown = io::count(
-        listing::write(protocol, &sheet[..got], &mut text) as isize,
-        &text,
-    );
+    let written = listing::write(protocol, &sheet[..got], &mut text);
+    let shown = io::count(written as isize, &text);
     io::write_all(STDOUT_FILENO, &text[..shown]);
 }
 

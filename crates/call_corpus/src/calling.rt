@@ -4,12 +4,12 @@ use column_bytes::columns;
 use column_bytes::postings;
 use column_bytes::walls;
 
-// The numbers of a case: a wall's columns, a record's bytes, a column or a round, and the poster.
+// The numbers of a case: columns of the wall, bytes of a record, which column or round, and the poster.
 pub(super) struct Numbers {
-    pub(super) x1: u32,
-    pub(super) x2: u32,
-    pub(super) x3: u32,
-    pub(super) x4: u32,
+    pub(super) n: u32,
+    pub(super) m: u32,
+    pub(super) which: u32,
+    pub(super) poster: u32,
 }
 
 fn wide(answer: u8) -> usize {
@@ -26,20 +26,20 @@ pub(super) fn call(
     w: &mut [u16],
 ) -> usize {
     match kind {
-        0 => columns::column_rounds(x.x1),
-        1 => columns::column_values(x.x1, x.x2, x.x3),
-        2 => postings::posting_values(x.x1, x.x2, x.x3),
-        3 => wide(columns::column_fresh(x.x1, x.x2, x.x3, a, b)),
+        0 => columns::column_rounds(x.n),
+        1 => columns::column_values(x.n, x.m, x.which),
+        2 => postings::posting_values(x.n, x.m, x.which),
+        3 => wide(columns::column_fresh(x.n, x.m, x.which, a, b)),
         4 => wide(columns::column_speak(b, v)),
         5 => wide(columns::column_listen(b, v)),
         6 => wide(columns::column_outcome(a, b)),
         7 => wide(walls::column_wall(a, b)),
-        8 => wide(postings::posting_fresh(x.x1, x.x2, x.x3, x.x4, a, b)),
+        8 => wide(postings::posting_fresh(x.n, x.m, x.which, x.poster, a, b)),
         9 => wide(postings::posting_speak(b, v)),
         10 => wide(postings::posting_listen(b, v)),
         11 => wide(postings::posting_outcome(a, b)),
-        12 => wide(walls::posting_wall(x.x4, a, b)),
-        13 => wide(blocks::column_decode(x.x1, v, w)),
+        12 => wide(walls::posting_wall(x.poster, a, b)),
+        13 => wide(blocks::column_decode(x.n, v, w)),
         _ => 255,
     }
 }

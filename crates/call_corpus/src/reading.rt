@@ -39,10 +39,10 @@ fn joined(low: u16, high: u16) -> u32 {
 
 pub(super) fn numbers(header: &[u8]) -> Numbers {
     Numbers {
-        x1: joined(messages::word(header, 1), messages::word(header, 3)),
-        x2: joined(messages::word(header, 5), messages::word(header, 7)),
-        x3: joined(messages::word(header, 9), messages::word(header, 11)),
-        x4: joined(messages::word(header, 13), messages::word(header, 15)),
+        n: joined(messages::word(header, 1), messages::word(header, 3)),
+        m: joined(messages::word(header, 5), messages::word(header, 7)),
+        which: joined(messages::word(header, 9), messages::word(header, 11)),
+        poster: joined(messages::word(header, 13), messages::word(header, 15)),
     }
 }
 

@@ -83,8 +83,20 @@ impl Call {
     pub const ALL: [Call; 14] = {
         use Call::*;
         [
-            ColumnRounds, ColumnValues, PostingValues, ColumnFresh, ColumnSpeak, ColumnListen, ColumnOutcome, ColumnWall, PostingFresh, PostingSpeak, PostingListen, PostingOutcome,
-            PostingWall, ColumnDecode,
+            ColumnRounds,
+            ColumnValues,
+            PostingValues,
+            ColumnFresh,
+            ColumnSpeak,
+            ColumnListen,
+            ColumnOutcome,
+            ColumnWall,
+            PostingFresh,
+            PostingSpeak,
+            PostingListen,
+            PostingOutcome,
+            PostingWall,
+            ColumnDecode,
         ]
     };
 }

@@ -230,16 +230,7 @@ impl Column {
                 }
             }
             Kind::FirstReport => (1..=sizes.n).for_each(|j| self.reports[j - 1] = from(j)[0] == 1),
-            Kind::SecondReport => {
-                self.grade = match times(1) {
-                    _ if !self.second_report(sizes) => 0,
-                    received if received >= 2 * sizes.t + 1 => 2,
-                    _ => 1,
-                };
-                if self.protocol == Protocol::Agreement {
-                    self.vote = u8::from(self.grade == 2);
-                }
-            }
+            Kind::SecondReport => self.settle_grade(sizes, times(1)),
             Kind::Vote => {
                 let quorum = |&bit: &u16| times(bit) >= sizes.quorum();
                 self.proposal = [0, 1].into_iter().find(quorum).unwrap_or(BLANK);
@@ -254,19 +245,29 @@ impl Column {
                     self.vote = u8::from(from(k as usize)[0] == 1);
                 }
             }
-            Kind::Points => {
-                for block in 0..sizes.blocks {
-                    self.kept[block] = kept_point(sizes, |j| from(j)[block]);
-                }
-            }
-            Kind::Kept => {
-                let decoded = if self.played_vote() == 1 { decoded_record(sizes, from) } else { None };
-                let Some(record) = decoded else { return Some(Stage::EndedOnNone) };
-                self.record = record;
-                return Some(Stage::EndedOnRecord);
-            }
+            Kind::Points => (0..sizes.blocks).for_each(|block| self.kept[block] = kept_point(sizes, |j| from(j)[block])),
+            Kind::Kept => return Some(self.end(if self.played_vote() == 1 { decoded_record(sizes, from) } else { None })),
         }
         None
+    }
+
+    /// The grade, and what the vote starts as, where so many second reports came.
+    fn settle_grade(&mut self, sizes: &Sizes, received: usize) {
+        self.grade = match self.second_report(sizes) {
+            false => 0,
+            true if received >= 2 * sizes.t + 1 => 2,
+            true => 1,
+        };
+        if self.protocol == Protocol::Agreement {
+            self.vote = u8::from(self.grade == 2);
+        }
+    }
+
+    /// A column that ends on none keeps its own record.
+    fn end(&mut self, decoded: Option<[u8; 32]>) -> Stage {
+        let Some(record) = decoded else { return Stage::EndedOnNone };
+        self.record = record;
+        Stage::EndedOnRecord
     }
 }
 

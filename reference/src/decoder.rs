@@ -55,40 +55,34 @@ impl Poly {
     }
 }
 
-/// The polynomial of degree at most d that meets at least n - t of the n points, a blank meeting none.
-pub fn decode(sizes: &Sizes, points: &[u16]) -> Option<[u16; 4]> {
-    let k = sizes.d + 1;
-    let mut places = [0u32; 32];
-    let mut slopes = [0u32; 32];
-    let mut m = 0;
-    for (i, &y) in points.iter().enumerate() {
-        if u32::from(y) < P {
-            places[m] = i as u32 + 1;
-            slopes[m] = u32::from(y);
-            m += 1;
+/// The polynomial of the lowest degree that has these values at these places, by Newton's divided differences.
+fn interpolated(places: &[u32], values: &mut [u32]) -> Poly {
+    for l in 1..places.len() {
+        for i in (l..places.len()).rev() {
+            values[i] = (values[i] + P - values[i - 1]) * INVERSE[(places[i] - places[i - l]) as usize] % P;
         }
     }
-    if m < sizes.quorum() {
-        return None;
+    let mut sum = Poly::ZERO;
+    for i in (0..places.len()).rev() {
+        sum.raise(places[i], values[i]);
     }
-    for l in 1..m {
-        for i in (l..m).rev() {
-            slopes[i] = (slopes[i] + P - slopes[i - 1]) * INVERSE[(places[i] - places[i - l]) as usize] % P;
-        }
-    }
-    let mut interpolated = Poly::ZERO;
-    for i in (0..m).rev() {
-        interpolated.raise(places[i], slopes[i]);
-    }
+    sum
+}
+
+/// The product of (x - place).
+fn product(places: &[u32]) -> Poly {
     let mut product = Poly::constant(1);
-    for &place in &places[..m] {
+    for &place in places {
         product.raise(place, 0);
     }
+    product
+}
 
-    // Remainders r and their cofactors v: each remainder is its cofactor times the interpolated polynomial, at every place.
-    let (mut r0, mut r1) = (product, interpolated);
+/// Euclid's algorithm until twice the degree of the remainder is below `stop`: that remainder and its cofactor, which times `r1` is the remainder at every place
+/// where `r0` is 0.
+fn euclid(mut r0: Poly, mut r1: Poly, stop: usize) -> (Poly, Poly) {
     let (mut v0, mut v1) = (Poly::ZERO, Poly::constant(1));
-    while 2 * r1.degree >= (m + k) as isize {
+    while 2 * r1.degree >= stop as isize {
         let inverse = INVERSE[r1.lead() as usize];
         while r0.degree >= r1.degree {
             let factor = r0.lead() * inverse % P;
@@ -99,19 +93,44 @@ pub fn decode(sizes: &Sizes, points: &[u16]) -> Option<[u16; 4]> {
         std::mem::swap(&mut r0, &mut r1);
         std::mem::swap(&mut v0, &mut v1);
     }
+    (r1, v1)
+}
 
-    // The answer is r / v, if that leaves nothing over and has at most k coefficients.
+/// r / v, if that leaves nothing over and has at most k coefficients.
+fn quotient(mut r: Poly, v: &Poly, k: usize) -> Option<[u16; 4]> {
     let mut c = [0u16; 4];
-    let inverse = INVERSE[v1.lead() as usize];
-    while r1.degree >= v1.degree {
-        let shift = (r1.degree - v1.degree) as usize;
+    let inverse = INVERSE[v.lead() as usize];
+    while r.degree >= v.degree {
+        let shift = (r.degree - v.degree) as usize;
         if shift >= k {
             return None;
         }
-        let factor = r1.lead() * inverse % P;
+        let factor = r.lead() * inverse % P;
         c[shift] = factor as u16;
-        r1.subtract(factor, shift, &v1);
+        r.subtract(factor, shift, v);
     }
+    (r.degree < 0).then_some(c)
+}
+
+/// The polynomial of degree at most d that meets at least n - t of the n points, a blank meeting none.
+pub fn decode(sizes: &Sizes, points: &[u16]) -> Option<[u16; 4]> {
+    let k = sizes.d + 1;
+    let mut places = [0u32; 31];
+    let mut values = [0u32; 31];
+    let mut there = 0;
+    for (i, &y) in points.iter().enumerate() {
+        if u32::from(y) < P {
+            places[there] = i as u32 + 1;
+            values[there] = y.into();
+            there += 1;
+        }
+    }
+    if there < sizes.quorum() {
+        return None;
+    }
+    let places = &places[..there];
+    let (r, v) = euclid(product(places), interpolated(places, &mut values[..there]), there + k);
+    let c = quotient(r, &v, k)?;
     let met = points.iter().enumerate().filter(|&(i, &y)| value(c.iter().map(|&c| c.into()), i as u32 + 1) == y.into()).count();
-    (r1.degree < 0 && met >= sizes.quorum()).then_some(c)
+    (met >= sizes.quorum()).then_some(c)
 }

@@ -142,10 +142,9 @@ fn agreements_and_reports(s: &Sizes, own: usize, random: &Random) -> ([bool; 31]
     (agreements, reports)
 }
 
-/// One part of a state out of its range.
+/// One part of a state out of its range, or still in it, where its range has no end.
 fn out_of_range(column: &mut Column, random: &Random) {
     let s = Sizes::by_formula(column.n.into(), column.m.into());
-    let beyond = |len: usize, most: usize, random: &Random| (len < most).then(|| random.pick(&[len, most - 1, random.between(len, most - 1)]));
     match random.below(13) {
         0 => column.n = random.pick(&[0, 3, 32, 255]),
         1 => column.m = random.pick(&[0, 33, 255]),
@@ -163,26 +162,18 @@ fn out_of_range(column: &mut Column, random: &Random) {
         6 => column.vote = random.pick(&[2, 255]),
         7 => column.proposal = random.pick(&[2, 255, 256, 257, 65534]),
         8 => column.kept[random.below(s.blocks.clamp(1, 32))] = random.pick(&[257, 514, 65534]),
-        9 => {
-            if let Some(block) = beyond(s.blocks, 32, random) {
-                column.kept[block] = random.pick(&[0, 256, 65534]);
-            }
-        }
-        10 => {
-            if let Some(byte) = beyond(s.m, 32, random) {
-                column.record[byte] = random.pick(&[1, 255]);
-            }
-        }
-        11 => {
-            if let Some(j) = beyond(s.n, 31, random) {
-                column.agreements[j] = true;
-            }
-        }
-        _ => {
-            if let Some(j) = beyond(s.n, 31, random) {
-                column.reports[j] = true;
-            }
-        }
+        9 => past(&mut column.kept, s.blocks, random.pick(&[0, 256, 65534]), random),
+        10 => past(&mut column.record, s.m, random.pick(&[1, 255]), random),
+        11 => past(&mut column.agreements, s.n, true, random),
+        _ => past(&mut column.reports, s.n, true, random),
+    }
+}
+
+/// Sets something past the part that is used, just behind it or at the very end.
+fn past<T>(array: &mut [T], used: usize, value: T, random: &Random) {
+    let last = array.len() - 1;
+    if used <= last {
+        array[random.pick(&[used, last, random.between(used, last)])] = value;
     }
 }
 

@@ -19,8 +19,19 @@ pub enum Camps {
 }
 
 impl Camps {
-    pub const ALL: [Camps; 11] =
-        [Camps::One, Camps::Quorum(0), Camps::Quorum(-1), Camps::Quorum(1), Camps::Quorum(2), Camps::Faults(0), Camps::Faults(1), Camps::Three(0), Camps::Three(1), Camps::Three(-1), Camps::Scattered];
+    pub const ALL: [Camps; 11] = [
+        Camps::One,
+        Camps::Quorum(0),
+        Camps::Quorum(-1),
+        Camps::Quorum(1),
+        Camps::Quorum(2),
+        Camps::Faults(0),
+        Camps::Faults(1),
+        Camps::Three(0),
+        Camps::Three(1),
+        Camps::Three(-1),
+        Camps::Scattered,
+    ];
 
     /// Of `sound` columns, which camp each is in.
     pub fn of(self, sizes: &Sizes, sound: usize, random: &Random) -> Vec<usize> {

@@ -145,9 +145,9 @@ struct Wall {
 impl Wall {
     fn fresh(plan: &Plan, sizes: Sizes, protocol: Protocol, sound: &[bool], records: &[Vec<u8>]) -> Wall {
         let make = |j: usize| Column::fresh(protocol, plan.n as u32, plan.m as u32, j as u32 + 1, &records[j]).expect("the sizes are a wall's");
-        let (sound, unsound): (Vec<usize>, Vec<usize>) = (0..plan.n).partition(|&j| sound[j]);
-        let stories = records.to_vec();
-        Wall { sizes, protocol, mood: plan.mood, columns: (0..plan.n).map(make).collect(), sound, unsound, stories, said: vec![vec![]; plan.n], width: 0, now: plan.mood }
+        let (sound, unsound) = (0..plan.n).partition(|&j| sound[j]);
+        let (columns, said) = ((0..plan.n).map(make).collect(), vec![vec![]; plan.n]);
+        Wall { sizes, protocol, mood: plan.mood, columns, sound, unsound, stories: records.to_vec(), said, width: 0, now: plan.mood }
     }
 
     /// Plays all rounds; gives, for each unsound column and each receiver, all that it sent.
@@ -298,8 +298,9 @@ impl Wall {
         let bit = random.below(2) as u16;
         let have = self.sound.iter().filter(|&&j| self.to(j, i) == [bit]).count();
         let count = joining(have, self.aim(thresholds, random), self.unsound.len());
-        let other = random.chance(50);
-        self.helpers(count, random).into_iter().map(|helps| vec![if helps { bit } else if other { 1 - bit } else { random.pick(&NO_BIT) }]).collect()
+        let rest = random.chance(50).then_some(1 - bit);
+        let said = |helps| if helps { bit } else { rest.unwrap_or_else(|| random.pick(&NO_BIT)) };
+        self.helpers(count, random).into_iter().map(|helps| vec![said(helps)]).collect()
     }
 
     /// Block by block, points of one value land on a threshold; the value is mostly one that a sound column sends.

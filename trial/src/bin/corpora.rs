@@ -46,13 +46,13 @@ fn accepted(random: &Random) -> Vec<WallCase> {
 /// Small sheets, each with every fault and every two of them; larger ones with every fault.
 fn refused(random: &Random) -> Vec<WallCase> {
     let mut cases = vec![];
-    for (n, m, posting, pairs) in [(4, 1, false, true), (4, 1, true, true), (6, 2, false, false), (7, 3, true, false), (10, 32, false, false), (19, 31, true, false)] {
+    for (n, m, posting) in [(4, 1, false), (4, 1, true), (6, 2, false), (7, 3, true), (10, 32, false), (19, 31, true)] {
         let fewer = if n > 7 { 2 } else { 0 };
         let base = Plan { n, m, posting, camps: Camps::Quorum(0), mood: Mood::Mixed, fewer, kings: false, liar_posts: false }.case(random);
         let faults = faults(&base);
         for (k, first) in faults.iter().enumerate() {
             cases.push(first.put(base.clone()));
-            if pairs {
+            if n == 4 {
                 cases.extend(faults[..k].iter().flat_map(|second| [second.put(first.put(base.clone())), first.put(second.put(base.clone()))]));
             }
         }

@@ -57,6 +57,7 @@ impl Poly {
 
 /// The polynomial of the lowest degree that has these values at these places, by Newton's divided differences.
 fn interpolated(places: &[u32], values: &mut [u32]) -> Poly {
+    let values = &mut values[..places.len()];
     for l in 1..places.len() {
         for i in (l..places.len()).rev() {
             values[i] = (values[i] + P - values[i - 1]) * INVERSE[(places[i] - places[i - l]) as usize] % P;
@@ -129,7 +130,7 @@ pub fn decode(sizes: &Sizes, points: &[u16]) -> Option<[u16; 4]> {
         return None;
     }
     let places = &places[..there];
-    let (r, v) = euclid(product(places), interpolated(places, &mut values[..there]), there + k);
+    let (r, v) = euclid(product(places), interpolated(places, &mut values), there + k);
     let c = quotient(r, &v, k)?;
     let met = points.iter().enumerate().filter(|&(i, &y)| value(c.iter().map(|&c| c.into()), i as u32 + 1) == y.into()).count();
     (met >= sizes.quorum()).then_some(c)

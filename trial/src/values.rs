@@ -1,7 +1,7 @@
 //! Values that are easily misread, and numbers that land on a threshold.
 use crate::random::Random;
 use reference::field;
-use reference::sizes::{BLANK, Sizes};
+use reference::sizes::{BLANK, Kind, Sizes};
 
 /// Illegal wherever points are read: the first one past the field, a multiple of 257 that is 0 modulo it, the last one before blank, blank.
 pub const NO_POINT: [u16; 6] = [257, 258, 514, 32768, 65534, BLANK];
@@ -14,6 +14,16 @@ pub const NO_REPORT: [u16; 6] = [BLANK, 0, 2, 257, 258, 65534];
 
 /// Illegal as a byte of a poster's record.
 pub const NO_BYTE: [u16; 5] = [256, 257, 32768, 65534, BLANK];
+
+/// What counts as blank in a round of this kind.
+pub fn illegal(kind: Kind) -> &'static [u16] {
+    match kind {
+        Kind::Post(_) => &NO_BYTE,
+        Kind::FirstReport | Kind::SecondReport => &NO_REPORT,
+        Kind::Vote | Kind::Proposal | Kind::King(_) => &NO_BIT,
+        Kind::Exchange | Kind::Points | Kind::Kept => &NO_POINT,
+    }
+}
 
 /// Any value, those at the edges often.
 pub fn any(random: &Random) -> u16 {

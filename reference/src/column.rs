@@ -152,7 +152,7 @@ impl Column {
         if fits { Ok(sizes) } else { Err(Refusal(11)) }
     }
 
-    /// The vote that the rounds are played with.
+    /// The vote that the rounds are played with: in a posting "taken as 1 everywhere".
     fn played_vote(&self) -> u8 {
         match self.protocol {
             Protocol::Agreement => self.vote,
@@ -169,16 +169,18 @@ impl Column {
         })
     }
 
+    /// "1 to all if i agrees with at least n - t columns, itself counted"
     fn first_report(&self, sizes: &Sizes) -> bool {
         (0..sizes.n).filter(|&j| self.agreements[j]).count() >= sizes.quorum()
     }
 
+    /// "1 to all if at least n - t columns that i agrees with sent a first report, and i sent one too"
     fn second_report(&self, sizes: &Sizes) -> bool {
         let from_agreed = (0..sizes.n).filter(|&j| self.agreements[j] && self.reports[j]).count();
         from_agreed >= sizes.quorum() && self.reports[usize::from(self.own) - 1]
     }
 
-    /// The message to column `to`.
+    /// The message to column `to`. What a kind does not say is blank.
     fn say(&self, sizes: &Sizes, kind: Kind, to: usize, message: &mut [u16]) {
         let report = |sent: bool| if sent { 1 } else { BLANK };
         message.fill(BLANK);
@@ -201,6 +203,7 @@ impl Column {
                     message[0] = self.vote.into();
                 }
             }
+            // "With vote 1 and grade 1 or 2, column i sends j its values at j; else blanks."
             Kind::Points => {
                 if self.played_vote() == 1 && self.grade > 0 {
                     message.iter_mut().zip(self.values_at(sizes, to)).for_each(|(value, point)| *value = point);
@@ -223,6 +226,7 @@ impl Column {
                     self.record = taken(from(s as usize));
                 }
             }
+            // "j's first value equals i's block at j and j's second equals i's block at i"
             Kind::Exchange => {
                 for j in 1..=sizes.n {
                     let expected = self.values_at(sizes, j).chain(self.values_at(sizes, self.own.into()));
@@ -231,15 +235,18 @@ impl Column {
             }
             Kind::FirstReport => (1..=sizes.n).for_each(|j| self.reports[j - 1] = from(j)[0] == 1),
             Kind::SecondReport => self.settle_grade(sizes, times(1)),
+            // "If 0 or 1 was received at least n - t times, propose it in the next round, else blank."
             Kind::Vote => {
                 let quorum = |&bit: &u16| times(bit) >= sizes.quorum();
                 self.proposal = [0, 1].into_iter().find(quorum).unwrap_or(BLANK);
             }
+            // "a bit proposed at least t + 1 times becomes the vote; if both were, 1. The vote is firm if it was proposed at least n - t times."
             Kind::Proposal => {
                 let proposed = |&bit: &u8| times(bit.into()) >= sizes.t + 1;
                 self.vote = [1, 0].into_iter().find(proposed).unwrap_or(self.vote);
                 self.firm = times(self.vote.into()) >= sizes.quorum();
             }
+            // "A column that is not firm takes it, or 0 if it is blank."
             Kind::King(k) => {
                 if !self.firm {
                     self.vote = u8::from(from(k as usize)[0] == 1);
@@ -251,7 +258,8 @@ impl Column {
         None
     }
 
-    /// The grade, and what the vote starts as, where so many second reports came.
+    /// "Grade 2: i sent it and received at least 2t + 1 of them from any columns. Grade 1: sent, fewer received. Grade 0: not sent." "The vote starts as 1 exactly at
+    /// grade 2"; in a posting it stays.
     fn settle_grade(&mut self, sizes: &Sizes, received: usize) {
         self.grade = match self.second_report(sizes) {
             false => 0,
@@ -263,7 +271,7 @@ impl Column {
         }
     }
 
-    /// A column that ends on none keeps its own record.
+    /// "A column that ends on a record holds it in place of its own; one that ends on none keeps its own."
     fn end(&mut self, decoded: Option<[u8; 32]>) -> Stage {
         let Some(record) = decoded else { return Stage::EndedOnNone };
         self.record = record;
@@ -271,7 +279,7 @@ impl Column {
     }
 }
 
-/// The record that a receiver takes from the poster's message.
+/// "A receiver that finds a value outside 0 to 255 takes a record of m zeros."
 fn taken(message: &[u16]) -> [u8; 32] {
     let mut record = [0; 32];
     for (byte, &value) in record.iter_mut().zip(message) {
@@ -281,7 +289,7 @@ fn taken(message: &[u16]) -> [u8; 32] {
     record
 }
 
-/// The smallest point received at least t + 1 times, or blank.
+/// "the point received at least t + 1 times: the smallest if several, blank if none"
 fn kept_point(sizes: &Sizes, point_from: impl Fn(usize) -> u16) -> u16 {
     let mut times = [0; 257];
     for j in 1..=sizes.n {
@@ -292,7 +300,7 @@ fn kept_point(sizes: &Sizes, point_from: impl Fn(usize) -> u16) -> u16 {
     times.iter().position(|&times| times >= sizes.t + 1).map_or(BLANK, |point| point as u16)
 }
 
-/// The record of the decoded blocks, if each has a polynomial, of bytes, with zeros past the record's end.
+/// "none .. if a block has none, if a coefficient is 256 or a fill byte is not 0; else the record"
 fn decoded_record<'a>(sizes: &Sizes, from: impl Fn(usize) -> &'a [u16]) -> Option<[u8; 32]> {
     let width = sizes.d + 1;
     let mut record = [0; 32];

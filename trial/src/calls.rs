@@ -7,7 +7,7 @@ use crate::values::any;
 use crate::walls::Plan;
 use reference::calls::{ENTRY_BYTES, STATE_BYTES};
 use reference::cases::{Call, CallCase, WallCase};
-use reference::column::Stage;
+use reference::column::{Column, Stage};
 use reference::sizes::{BLANK, Protocol};
 
 /// Any call; `most` bounds the bytes of a record, so that stored cases stay small.
@@ -15,8 +15,8 @@ pub fn any_call(most: usize, random: &Random) -> CallCase {
     match random.below(100) {
         0..4 => lengths(random),
         4..10 => fresh(most, random),
-        10..28 => speak(most, random),
-        28..76 => listen(most, random),
+        10..28 => in_round(most, false, random),
+        28..76 => in_round(most, true, random),
         76..82 => outcome(most, random),
         82..88 => wall(most, random),
         _ => decode(random),
@@ -47,7 +47,7 @@ fn lengths(random: &Random) -> CallCase {
 }
 
 /// Junk, so that a write to it shows.
-fn junk(len: usize, random: &Random) -> Vec<u8> {
+pub fn junk(len: usize, random: &Random) -> Vec<u8> {
     (0..len).map(|_| random.byte()).collect()
 }
 
@@ -68,42 +68,45 @@ fn fresh(most: usize, random: &Random) -> CallCase {
     case
 }
 
-fn speak(most: usize, random: &Random) -> CallCase {
+/// To speak or to listen, mostly where it is the column's turn.
+fn in_round(most: usize, listens: bool, random: &Random) -> CallCase {
     let posting = random.chance(30);
     let mut column = state(most, posting, random);
-    if let (Stage::ToListen(round), true) = (column.stage, random.chance(80)) {
-        column.stage = Stage::ToSpeak(round);
+    if let (Stage::ToSpeak(round) | Stage::ToListen(round), true) = (column.stage, random.chance(90)) {
+        column.stage = if listens { Stage::ToListen(round) } else { Stage::ToSpeak(round) };
     }
-    let (_, len) = round(&column);
-    let mut case = CallCase::new(if posting { Call::PostingSpeak } else { Call::ColumnSpeak });
-    case.b = state_bytes(&column, random);
-    case.v = (0..length(len, column.n.into(), random)).map(|_| any(random)).collect();
-    case
+    let (_, right) = round(&column);
+    on_state(listens, &column, state_bytes(&column, random), length(right, column.n.into(), random), random)
 }
 
-fn listen(most: usize, random: &Random) -> CallCase {
-    let posting = random.chance(30);
-    let mut column = state(most, posting, random);
-    if let (Stage::ToSpeak(round), true) = (column.stage, random.chance(90)) {
-        column.stage = Stage::ToListen(round);
+/// The call to speak or to listen on a state's bytes, with a slice of so many values: what the column may hear in its round, or anything.
+pub fn on_state(listens: bool, column: &Column, bytes: Vec<u8>, len: usize, random: &Random) -> CallCase {
+    let mut case = CallCase::new(match (column.protocol, listens) {
+        (Protocol::Agreement, false) => Call::ColumnSpeak,
+        (Protocol::Agreement, true) => Call::ColumnListen,
+        (Protocol::Posting(_), false) => Call::PostingSpeak,
+        (Protocol::Posting(_), true) => Call::PostingListen,
+    });
+    case.b = bytes;
+    if listens {
+        case.v = inbox(column, round(column).0, random);
     }
-    let (kind, len) = round(&column);
-    let mut case = CallCase::new(if posting { Call::PostingListen } else { Call::ColumnListen });
-    case.v = inbox(&column, kind, random);
-    case.v.resize(length(len, column.n.into(), random), BLANK);
-    case.b = state_bytes(&column, random);
+    case.v.resize_with(len, || any(random));
     case
 }
 
 fn outcome(most: usize, random: &Random) -> CallCase {
-    let posting = random.chance(50);
-    let mut column = state(most, posting, random);
+    let mut column = state(most, random.chance(50), random);
     if random.chance(80) {
         column.stage = random.pick(&[Stage::EndedOnNone, Stage::EndedOnRecord]);
     }
-    let mut case = CallCase::new(if posting { Call::PostingOutcome } else { Call::ColumnOutcome });
-    case.a = state_bytes(&column, random);
-    case.b = junk(length(ENTRY_BYTES, 1, random), random);
+    asked(&column, state_bytes(&column, random), length(ENTRY_BYTES, 1, random), random)
+}
+
+/// The call for the outcome on a state's bytes, with a slice of so many bytes for it.
+pub fn asked(column: &Column, bytes: Vec<u8>, len: usize, random: &Random) -> CallCase {
+    let mut case = CallCase::new(if column.protocol == Protocol::Agreement { Call::ColumnOutcome } else { Call::PostingOutcome });
+    (case.a, case.b) = (bytes, junk(len, random));
     case
 }
 

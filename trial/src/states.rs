@@ -38,27 +38,38 @@ pub fn state(most: usize, posting: bool, random: &Random) -> Column {
     let turn = random.below(9);
     // In the last rounds, blocks of two bytes and more.
     let s = sizes_from(if turn >= 7 && random.chance(60) { 10 } else { 4 }, most, random);
-    let own = random.between(1, s.n) as u32;
-    let poster = if random.chance(30) { own } else { random.between(1, s.n) as u32 };
-    let protocol = if posting { Protocol::Posting(poster) } else { Protocol::Agreement };
-    let mut column = Column::fresh(protocol, s.n as u32, s.m as u32, own, &records::any(s.m, random)).expect("it is in range");
-    if posting && random.chance(70) {
-        column.record[..s.m].copy_from_slice(&records::any(s.m, random));
-    }
     let round = match turn {
-        0..3 => 1 + turn + usize::from(posting && random.chance(50)),
-        3..6 if !posting => 4 + 3 * random.below(s.t + 1) + turn - 3,
-        6 => s.rounds(protocol) - 1,
-        _ => s.rounds(protocol),
+        0..3 => 1 + turn,
+        3..6 if posting => 1 + turn,
+        3..6 => 4 + 3 * random.below(s.t + 1) + turn - 3,
+        _ => s.rounds(protocol(posting, 1)) - usize::from(turn == 6),
     } as u8;
-    column.stage = match random.below(10) {
+    let stage = match random.below(10) {
         0 => random.pick(&[Stage::EndedOnNone, Stage::EndedOnRecord]),
         1..6 => Stage::ToListen(round),
         _ => Stage::ToSpeak(round),
     };
+    state_at(&s, posting, stage, random)
+}
+
+fn protocol(posting: bool, poster: usize) -> Protocol {
+    if posting { Protocol::Posting(poster as u32) } else { Protocol::Agreement }
+}
+
+/// A state in its ranges, at this stage.
+pub fn state_at(s: &Sizes, posting: bool, stage: Stage, random: &Random) -> Column {
+    let own = random.between(1, s.n);
+    let poster = if random.chance(30) { own } else { random.between(1, s.n) };
+    let record = records::any(s.m, random);
+    let mut column = Column::fresh(protocol(posting, poster), s.n as u32, s.m as u32, own as u32, &record).expect("it is in range");
+    if random.chance(70) {
+        // A receiver of a posting, too, holds a record after the first round.
+        column.record[..s.m].copy_from_slice(&record);
+    }
+    column.stage = stage;
     (column.grade, column.vote, column.firm) = (random.below(3) as u8, random.chance(70).into(), random.chance(40));
     column.proposal = random.pick(&[0, 1, BLANK]);
-    (column.agreements, column.reports) = agreements_and_reports(&s, own as usize - 1, random);
+    (column.agreements, column.reports) = agreements_and_reports(s, own - 1, random);
     for point in &mut column.kept[..s.blocks] {
         *point = random.pick(&[BLANK, 0, 256, random.below(257) as u16]);
     }
@@ -79,10 +90,13 @@ fn agreements_and_reports(s: &Sizes, own: usize, random: &Random) -> ([bool; 31]
     (agreements, reports)
 }
 
+/// How many parts of a state have a range.
+pub const RANGES: usize = 13;
+
 /// One part of a state out of its range, or still in it, where its range has no end.
-fn out_of_range(column: &mut Column, random: &Random) {
+pub fn out_of_range(part: usize, column: &mut Column, random: &Random) {
     let s = Sizes::by_formula(column.n.into(), column.m.into());
-    match random.below(13) {
+    match part {
         0 => column.n = random.pick(&[0, 3, 32, 255]),
         1 => column.m = random.pick(&[0, 33, 255]),
         2 => column.own = random.pick(&[0, column.n.wrapping_add(1), 32, 255]),
@@ -114,14 +128,12 @@ fn past<T>(array: &mut [T], used: usize, value: T, random: &Random) {
     }
 }
 
-/// The bytes of a state, often with something out of its range, now and then bytes that are no state.
-pub fn state_bytes(column: &Column, random: &Random) -> Vec<u8> {
-    let mut column = *column;
-    if random.chance(12) {
-        (0..random.between(1, 2)).for_each(|_| out_of_range(&mut column, random));
-    }
-    let mut bytes = encode(&column).to_vec();
-    match random.below(100) {
+/// In how many ways bytes are made no state.
+pub const DAMAGES: usize = 8;
+
+/// Bytes that are no state any more, or one of the other protocol.
+pub fn damage(way: usize, bytes: &mut Vec<u8>, random: &Random) {
+    match way {
         0 => bytes[0] = random.pick(&[0, 2, 255]),
         1 => bytes[1] = random.pick(&[0, 1, 2]),
         2 => bytes[5] = random.pick(&[0, 2, 3, 4, 255]),
@@ -129,8 +141,19 @@ pub fn state_bytes(column: &Column, random: &Random) -> Vec<u8> {
         4 => bytes[9] = 2,
         5 => bytes[random.between(44, 105)] = random.pick(&[2, 255]),
         6 => bytes.truncate(random.pick(&[0, 1, 169])),
-        7 => bytes.push(0),
-        _ => {}
+        _ => bytes.push(0),
+    }
+}
+
+/// The bytes of a state, often with something out of its range, now and then bytes that are no state.
+pub fn state_bytes(column: &Column, random: &Random) -> Vec<u8> {
+    let mut column = *column;
+    if random.chance(12) {
+        (0..random.between(1, 2)).for_each(|_| out_of_range(random.below(RANGES), &mut column, random));
+    }
+    let mut bytes = encode(&column).to_vec();
+    if random.chance(8) {
+        damage(random.below(DAMAGES), &mut bytes, random);
     }
     bytes
 }

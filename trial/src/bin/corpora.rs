@@ -7,6 +7,7 @@ use std::collections::HashSet;
 use std::fs;
 use std::io;
 use std::path::Path;
+use trial::boundaries;
 use trial::calls::{any_call, on_row};
 use trial::random::Random;
 use trial::records::Camps;
@@ -104,9 +105,9 @@ fn main() -> io::Result<()> {
     store(&dir.join("wall_corpus"), &stdin, &stdout)?;
     eprintln!("corpora: {} accepted sheets, {} sheets in all, {} bytes", accepted.len(), walls.len(), stdin.len());
 
-    let mut calls = rows(&random);
-    calls.extend((0..2500).map(|_| any_call(8, &random)));
-    calls.extend((0..300).map(|_| any_call(32, &random)));
+    let mut calls = [rows(&random), boundaries::all(&random)].concat();
+    calls.extend((0..2000).map(|_| any_call(8, &random)));
+    calls.extend((0..250).map(|_| any_call(32, &random)));
     let calls = unique(calls);
     let mut stdin = vec![];
     calls.iter().try_for_each(|case| case.write(&mut stdin))?;

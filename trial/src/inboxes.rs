@@ -79,13 +79,14 @@ fn candidates(s: &Sizes, random: &Random) -> Vec<u16> {
 /// Points of all blocks in the last round: those of a record, and one block has a flaw more often than not.
 fn kept(s: &Sizes, random: &Random) -> Vec<Vec<u16>> {
     let flawed = random.below(s.blocks);
-    let flaw = random.below(6);
+    let fills = s.m < s.blocks * (s.d + 1);
+    let flaw = if fills && random.chance(30) { 0 } else { random.between(1, 5) };
     (0..s.blocks)
         .map(|block| {
             let start = block * (s.d + 1);
             let mut first = coefficients(s.d + 1, random);
             first.iter_mut().skip(s.m - start).for_each(|fill| *fill = 0);
-            if block == s.blocks - 1 && flaw == 0 && s.m - start <= s.d {
+            if block == s.blocks - 1 && flaw == 0 {
                 // A byte past the record's end.
                 first[random.between(s.m - start, s.d)] = random.between(1, 256) as u32;
             }

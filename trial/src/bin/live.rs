@@ -2,7 +2,9 @@
 //! differ it prints the seed, which makes the same cases again, and stores the case for the programs that play stored ones.
 use reference::calls::ENTRY_BYTES;
 use reference::cases::CallCase;
+use std::num::NonZero;
 use std::process::exit;
+use std::thread;
 use std::time::{Instant, SystemTime};
 use trial::calls::{any_call, on_row};
 use trial::proved;
@@ -28,24 +30,31 @@ fn answer(case: &CallCase) -> Result<usize, [String; 2]> {
     if numbers[0] == numbers[1] && ours == theirs { Ok(numbers[0]) } else { Err([ours.line(numbers[0]), theirs.line(numbers[1])]) }
 }
 
-fn play(what: &str, count: usize, seed: u64, make: impl Fn(&Random) -> CallCase) {
+/// Plays one case; true where it was not refused.
+fn agrees(what: &str, k: usize, seed: u64, make: impl Fn(&Random) -> CallCase) -> bool {
+    // Each case has a seed of its own: it does not depend on how many were made before it.
+    let case = make(&Random::new(seed.wrapping_add((k as u64) << 32)));
+    let [ours, theirs] = match answer(&case) {
+        Ok(number) => return number == 0,
+        Err(answers) => answers,
+    };
+    let path = "target/differs.case";
+    let stored = std::fs::File::create(path).and_then(|mut file| case.write(&mut file));
+    println!("live: seed {seed}: the proved call and the reference differ in {what} {k}, {:?}{:?}", case.call, case.numbers);
+    println!("the proved call: {ours}the reference:   {theirs}");
+    println!("'target/bin/call_corpus <{path}' and 'target/cargo/release/answer calls <{path}' play it again ({stored:?})");
+    exit(1)
+}
+
+/// Plays so many cases, on all processors.
+fn play(what: &str, count: usize, seed: u64, make: impl Fn(&Random) -> CallCase + Copy + Send) {
     let start = Instant::now();
-    let mut done = 0;
-    for k in 0..count {
-        // Each case has a seed of its own: it does not depend on how many were made before it.
-        let case = make(&Random::new(seed.wrapping_add((k as u64) << 32)));
-        match answer(&case) {
-            Ok(number) => done += usize::from(number == 0),
-            Err([ours, theirs]) => {
-                println!("live: seed {seed}: the proved call and the reference differ in {what} {k}, {:?}{:?}", case.call, case.numbers);
-                println!("the proved call: {ours}the reference:   {theirs}");
-                let path = "target/differs.case";
-                let stored = std::fs::File::create(path).and_then(|mut file| case.write(&mut file));
-                println!("'target/bin/call_corpus <{path}' and 'target/cargo/release/answer calls <{path}' play it again ({stored:?})");
-                exit(1);
-            }
-        }
-    }
+    let threads = thread::available_parallelism().map_or(1, NonZero::get);
+    let share = |first: usize| move || (first..count).step_by(threads).filter(|&k| agrees(what, k, seed, make)).count();
+    let done: usize = thread::scope(|scope| {
+        let shares: Vec<_> = (0..threads).map(|first| scope.spawn(share(first))).collect();
+        shares.into_iter().map(|share| share.join().expect("a case is made and played without a panic")).sum()
+    });
     println!("live: seed {seed}: {count} {what}s, {done} of them not refused: the same answers, in {:.0} s", start.elapsed().as_secs_f64());
 }
 

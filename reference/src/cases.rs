@@ -59,46 +59,23 @@ impl WallCase {
     }
 }
 
-/// A call of include/column.h.
-#[derive(Clone, Copy, PartialEq, Eq, Hash, Debug)]
-#[repr(u8)]
-pub enum Call {
-    ColumnRounds,
-    ColumnValues,
-    PostingValues,
-    ColumnFresh,
-    ColumnSpeak,
-    ColumnListen,
-    ColumnOutcome,
-    ColumnWall,
-    PostingFresh,
-    PostingSpeak,
-    PostingListen,
-    PostingOutcome,
-    PostingWall,
-    ColumnDecode,
+/// The calls, each by its name once: a stored case has its place in this list.
+macro_rules! calls {
+    ($($name:ident)*) => {
+        /// A call of include/column.h.
+        #[derive(Clone, Copy, PartialEq, Eq, Hash, Debug)]
+        #[repr(u8)]
+        pub enum Call { $($name),* }
+
+        const CALLS: &[Call] = &[$(Call::$name),*];
+    };
 }
 
-impl Call {
-    pub const ALL: [Call; 14] = {
-        use Call::*;
-        [
-            ColumnRounds,
-            ColumnValues,
-            PostingValues,
-            ColumnFresh,
-            ColumnSpeak,
-            ColumnListen,
-            ColumnOutcome,
-            ColumnWall,
-            PostingFresh,
-            PostingSpeak,
-            PostingListen,
-            PostingOutcome,
-            PostingWall,
-            ColumnDecode,
-        ]
-    };
+calls! {
+    ColumnRounds ColumnValues PostingValues
+    ColumnFresh ColumnSpeak ColumnListen ColumnOutcome ColumnWall
+    PostingFresh PostingSpeak PostingListen PostingOutcome PostingWall
+    ColumnDecode
 }
 
 /// A single call with everything that it is handed: up to four numbers (n, m, own or round, poster), a slice that is only read, one of bytes that may be
@@ -120,7 +97,7 @@ impl CallCase {
 
     pub fn read(input: &mut impl Read) -> io::Result<Option<CallCase>> {
         let Some(head) = header::<25>(input)? else { return Ok(None) };
-        let call = *Call::ALL.get(usize::from(head[0])).ok_or_else(|| io::Error::other("no call has this number"))?;
+        let call = *CALLS.get(usize::from(head[0])).ok_or_else(|| io::Error::other("no call has this number"))?;
         let numbers = std::array::from_fn(|i| u32::from_le_bytes(std::array::from_fn(|k| head[1 + 4 * i + k])));
         let length = |i: usize| usize::from(u16::from_le_bytes([head[17 + 2 * i], head[18 + 2 * i]]));
         let (a, b) = (bytes(input, length(0))?, bytes(input, length(1))?);

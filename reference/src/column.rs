@@ -74,13 +74,7 @@ impl Column {
 
     /// Writes a message to each column. Refused with 11, 10, 7, 4.
     pub fn speak(&mut self, out: &mut [u16]) -> Result<(), Refusal> {
-        let sizes = self.in_range()?;
-        let round = match self.stage {
-            Stage::EndedOnNone | Stage::EndedOnRecord => return Err(Refusal(10)),
-            Stage::ToListen(_) => return Err(Refusal(7)),
-            Stage::ToSpeak(round) => round,
-        };
-        let kind = sizes.kind(self.protocol, round.into()).ok_or(Refusal(11))?;
+        let (sizes, round, kind) = self.turn(false)?;
         if out.len() != sizes.n * sizes.values(kind) {
             return Err(Refusal(4));
         }
@@ -93,13 +87,7 @@ impl Column {
 
     /// Reads a message from each column. Refused with 11, 10, 8, 4.
     pub fn listen(&mut self, inbox: &[u16]) -> Result<(), Refusal> {
-        let sizes = self.in_range()?;
-        let round = match self.stage {
-            Stage::EndedOnNone | Stage::EndedOnRecord => return Err(Refusal(10)),
-            Stage::ToSpeak(_) => return Err(Refusal(8)),
-            Stage::ToListen(round) => round,
-        };
-        let kind = sizes.kind(self.protocol, round.into()).ok_or(Refusal(11))?;
+        let (sizes, round, kind) = self.turn(true)?;
         let values = sizes.values(kind);
         if inbox.len() != sizes.n * values {
             return Err(Refusal(4));
@@ -128,6 +116,19 @@ impl Column {
             Protocol::Posting(_) => u8::from(record.is_some()),
         };
         Ok(Outcome { grade, vote: self.vote, record })
+    }
+
+    /// The round in which the column is to speak or to listen, and what it is for. Refused with 11, 10, 7, 8.
+    fn turn(&self, listens: bool) -> Result<(Sizes, u8, Kind), Refusal> {
+        let sizes = self.in_range()?;
+        let round = match (self.stage, listens) {
+            (Stage::EndedOnNone | Stage::EndedOnRecord, _) => return Err(Refusal(10)),
+            (Stage::ToListen(_), false) => return Err(Refusal(7)),
+            (Stage::ToSpeak(_), true) => return Err(Refusal(8)),
+            (Stage::ToSpeak(round) | Stage::ToListen(round), _) => round,
+        };
+        let kind = sizes.kind(self.protocol, round.into()).ok_or(Refusal(11))?;
+        Ok((sizes, round, kind))
     }
 
     /// Refused with 11: a number out of its range.

@@ -14,9 +14,9 @@ pub struct Entry {
 
 /// An accepted sheet.
 pub struct Sheet<'a> {
-    pub protocol: Protocol,
+    protocol: Protocol,
     pub sizes: Sizes,
-    pub marks: &'a [u8],
+    marks: &'a [u8],
     records: &'a [u8],
     lines: &'a [u8],
 }
@@ -45,11 +45,11 @@ impl<'a> Sheet<'a> {
         Ok(Sheet { protocol, sizes, marks, records, lines })
     }
 
-    pub fn record(&self, j: usize) -> &'a [u8] {
+    fn record(&self, j: usize) -> &'a [u8] {
         &self.records[(j - 1) * self.sizes.m..j * self.sizes.m]
     }
 
-    pub fn is_sound(&self, j: usize) -> bool {
+    fn is_sound(&self, j: usize) -> bool {
         self.marks[j - 1] == 0
     }
 

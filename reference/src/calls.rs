@@ -32,13 +32,16 @@ pub fn encode(column: &Column) -> [u8; STATE_BYTES] {
         Protocol::Agreement => 0,
         Protocol::Posting(s) => s as u8,
     };
-    let mut bytes = vec![1, poster, column.n, column.m, column.own, stage, round, column.grade, column.vote, column.firm.into()];
-    bytes.extend(column.proposal.to_le_bytes());
-    bytes.extend(column.record);
-    bytes.extend(column.agreements.map(u8::from));
-    bytes.extend(column.reports.map(u8::from));
-    bytes.extend(column.kept.iter().flat_map(|point| point.to_le_bytes()));
-    bytes.try_into().expect("a state has 170 bytes")
+    let mut bytes = [0; STATE_BYTES];
+    bytes[..10].copy_from_slice(&[1, poster, column.n, column.m, column.own, stage, round, column.grade, column.vote, column.firm.into()]);
+    bytes[10..12].copy_from_slice(&column.proposal.to_le_bytes());
+    bytes[12..44].copy_from_slice(&column.record);
+    bytes[44..75].copy_from_slice(&column.agreements.map(u8::from));
+    bytes[75..106].copy_from_slice(&column.reports.map(u8::from));
+    for (bytes, point) in bytes[106..].chunks_exact_mut(2).zip(column.kept) {
+        bytes.copy_from_slice(&point.to_le_bytes());
+    }
+    bytes
 }
 
 /// The state of a protocol that bytes are, or refusal 11.

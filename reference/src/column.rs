@@ -75,11 +75,19 @@ impl Column {
     /// Writes a message to each column. Refused with 11, 10, 7, 4.
     pub fn speak(&mut self, out: &mut [u16]) -> Result<(), Refusal> {
         let (sizes, round, kind) = self.turn(false)?;
-        if out.len() != sizes.n * sizes.values(kind) {
+        let values = sizes.values(kind);
+        if out.len() != sizes.n * values {
             return Err(Refusal(4));
         }
-        for (to, message) in (1..).zip(out.chunks_exact_mut(sizes.values(kind))) {
-            self.say(&sizes, kind, to, message);
+        let mine = self.own_points(&sizes, kind);
+        let (first, others) = out.split_at_mut(values);
+        self.say(&sizes, kind, &mine, 1, first);
+        for (to, message) in (2..).zip(others.chunks_exact_mut(values)) {
+            match kind {
+                Kind::Exchange | Kind::Points => self.say(&sizes, kind, &mine, to, message),
+                // All other rounds say the same to all.
+                _ => message.copy_from_slice(first),
+            }
         }
         self.stage = Stage::ToListen(round);
         Ok(())
@@ -94,10 +102,11 @@ impl Column {
         }
         // For its own place it uses what it would send itself.
         let mut own = [BLANK; LONGEST];
-        self.say(&sizes, kind, self.own.into(), &mut own[..values]);
+        let mine = self.own_points(&sizes, kind);
+        self.say(&sizes, kind, &mine, self.own.into(), &mut own[..values]);
         let number = usize::from(self.own);
         let from = |j: usize| if j == number { &own[..values] } else { &inbox[(j - 1) * values..j * values] };
-        let ended = self.hear(&sizes, kind, from);
+        let ended = self.hear(&sizes, kind, &mine, from);
         self.stage = ended.unwrap_or(Stage::ToSpeak(round + 1));
         Ok(())
     }
@@ -162,12 +171,20 @@ impl Column {
     }
 
     /// The values of the record at a column's point, one per block.
-    fn values_at(&self, sizes: &Sizes, point: usize) -> impl Iterator<Item = u16> {
+    fn points(&self, sizes: &Sizes, point: usize, values: &mut [u16]) {
         let width = sizes.d + 1;
-        (0..sizes.blocks).map(move |block| {
-            let end = (block * width + width).min(32);
-            field::value(self.record[block * width..end].iter().map(|&byte| byte.into()), point as u32) as u16
-        })
+        for (value, block) in values.iter_mut().zip(self.record[..].chunks(width)) {
+            *value = field::value(block.iter().map(|&byte| byte.into()), point as u32) as u16;
+        }
+    }
+
+    /// Those at its own point, in the round that needs them for every column.
+    fn own_points(&self, sizes: &Sizes, kind: Kind) -> [u16; 32] {
+        let mut mine = [BLANK; 32];
+        if kind == Kind::Exchange {
+            self.points(sizes, self.own.into(), &mut mine[..sizes.blocks]);
+        }
+        mine
     }
 
     /// "1 to all if i agrees with at least n - t columns, itself counted"
@@ -181,8 +198,8 @@ impl Column {
         from_agreed >= sizes.quorum() && self.reports[usize::from(self.own) - 1]
     }
 
-    /// The message to column `to`. What a kind does not say is blank.
-    fn say(&self, sizes: &Sizes, kind: Kind, to: usize, message: &mut [u16]) {
+    /// The message to column `to`. What a kind does not say is blank. `mine` are the own points in the exchange.
+    fn say(&self, sizes: &Sizes, kind: Kind, mine: &[u16; 32], to: usize, message: &mut [u16]) {
         let report = |sent: bool| if sent { 1 } else { BLANK };
         message.fill(BLANK);
         match kind {
@@ -192,8 +209,9 @@ impl Column {
                 }
             }
             Kind::Exchange => {
-                let both = self.values_at(sizes, self.own.into()).chain(self.values_at(sizes, to));
-                message.iter_mut().zip(both).for_each(|(value, point)| *value = point);
+                let (first, second) = message.split_at_mut(sizes.blocks);
+                first.copy_from_slice(&mine[..sizes.blocks]);
+                self.points(sizes, to, second);
             }
             Kind::FirstReport => message[0] = report(self.first_report(sizes)),
             Kind::SecondReport => message[0] = report(self.second_report(sizes)),
@@ -207,7 +225,7 @@ impl Column {
             // "With vote 1 and grade 1 or 2, column i sends j its values at j; else blanks."
             Kind::Points => {
                 if self.played_vote() == 1 && self.grade > 0 {
-                    message.iter_mut().zip(self.values_at(sizes, to)).for_each(|(value, point)| *value = point);
+                    self.points(sizes, to, message);
                 }
             }
             Kind::Kept => {
@@ -219,7 +237,7 @@ impl Column {
     }
 
     /// What the column makes of a round, where `from` has the message of each column; where it ends, on what.
-    fn hear<'a>(&mut self, sizes: &Sizes, kind: Kind, from: impl Fn(usize) -> &'a [u16]) -> Option<Stage> {
+    fn hear<'a>(&mut self, sizes: &Sizes, kind: Kind, mine: &[u16; 32], from: impl Fn(usize) -> &'a [u16]) -> Option<Stage> {
         let times = |value: u16| (1..=sizes.n).filter(|&j| from(j)[0] == value).count();
         match kind {
             Kind::Post(s) => {
@@ -230,8 +248,10 @@ impl Column {
             // "j's first value equals i's block at j and j's second equals i's block at i"
             Kind::Exchange => {
                 for j in 1..=sizes.n {
-                    let expected = self.values_at(sizes, j).chain(self.values_at(sizes, self.own.into()));
-                    self.agreements[j - 1] = expected.eq(from(j).iter().copied());
+                    let mut theirs = [BLANK; 32];
+                    self.points(sizes, j, &mut theirs[..sizes.blocks]);
+                    let (first, second) = from(j).split_at(sizes.blocks);
+                    self.agreements[j - 1] = *first == theirs[..sizes.blocks] && *second == mine[..sizes.blocks];
                 }
             }
             Kind::FirstReport => (1..=sizes.n).for_each(|j| self.reports[j - 1] = from(j)[0] == 1),
@@ -292,13 +312,17 @@ fn taken(message: &[u16]) -> [u8; 32] {
 
 /// "the point received at least t + 1 times: the smallest if several, blank if none"
 fn kept_point(sizes: &Sizes, point_from: impl Fn(usize) -> u16) -> u16 {
-    let mut times = [0; 257];
+    let mut times = [0u8; 257];
+    let mut kept = BLANK;
     for j in 1..=sizes.n {
-        if let Some(times) = times.get_mut(usize::from(point_from(j))) {
-            *times += 1;
+        let point = point_from(j);
+        let Some(times) = times.get_mut(usize::from(point)) else { continue };
+        *times += 1;
+        if usize::from(*times) == sizes.t + 1 {
+            kept = kept.min(point);
         }
     }
-    times.iter().position(|&times| times >= sizes.t + 1).map_or(BLANK, |point| point as u16)
+    kept
 }
 
 /// "none .. if a block has none, if a coefficient is 256 or a fill byte is not 0; else the record"

@@ -20,7 +20,8 @@ pub static INVERSE: [u32; 257] = {
     table
 };
 
-/// The value at a point of the polynomial with these coefficients, the constant term first.
+/// The value at a point of the polynomial with these coefficients, the constant term first. At most four coefficients below 257 at a point below 32 come to less
+/// than 2^24, so that one division is enough.
 pub fn value(coefficients: impl DoubleEndedIterator<Item = u32>, point: u32) -> u32 {
-    coefficients.rev().fold(0, |rest, c| (c + point * rest) % MODULUS)
+    coefficients.rev().fold(0, |rest, c| c + point * rest) % MODULUS
 }

@@ -53,9 +53,8 @@ impl<'a> Sheet<'a> {
         self.marks[j - 1] == 0
     }
 
-    /// What the unsound column j sends column i, from value `sent` of its line on.
-    fn lied(&self, j: usize, i: usize, sent: usize, message: &mut [u16]) {
-        let before = self.marks[..j - 1].iter().filter(|&&mark| mark == 1).count();
+    /// What the unsound column that has `before` others before it sends column i, from value `sent` of its line on.
+    fn lied(&self, before: usize, i: usize, sent: usize, message: &mut [u16]) {
         let start = (before * self.sizes.n + i - 1) * self.sizes.line(self.protocol) + sent;
         for (value, bytes) in message.iter_mut().zip(self.lines[2 * start..].chunks_exact(2)) {
             *value = u16::from_le_bytes([bytes[0], bytes[1]]);
@@ -79,11 +78,13 @@ impl<'a> Sheet<'a> {
                 columns[j - 1].speak(&mut mail[j - 1][..n * values])?;
             }
             for i in (1..=n).filter(|&i| self.is_sound(i)) {
+                let mut unsound = 0;
                 for (j, message) in (1..).zip(inbox[..n * values].chunks_exact_mut(values)) {
                     if self.is_sound(j) {
                         message.copy_from_slice(&mail[j - 1][(i - 1) * values..i * values]);
                     } else {
-                        self.lied(j, i, sent, message);
+                        self.lied(unsound, i, sent, message);
+                        unsound += 1;
                     }
                 }
                 columns[i - 1].listen(&inbox[..n * values])?;

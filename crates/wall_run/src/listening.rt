@@ -36,7 +36,7 @@ pub(super) fn listen_all(
     sheet: &[u8],
     round: Round,
     mail: &[u16],
-    wall: [Column; 31],
+    mut wall: [Column; 31],
 ) -> [Column; 31]
     requires { ⌜ (columns (now sheet) ≤ 31) × (columns (now sheet) * (round .width) ≤ 2048) ⌝ }
     ensures { λ r. ⌜ r ≡ each (columns (now (sheet .entry))) (heard protocol (now (sheet .entry)) round (now (mail .entry))) wall ⌝ }
@@ -45,11 +45,10 @@ pub(super) fn listen_all(
     let len = space::of_one(sheet, round.width);
     // Room for 31 messages of at most 65 values.
     let mut inbox = [65535u16; 2048];
-    let mut next = wall;
     for i in 0..n {
         let at = i as usize;
         let column = wall[at];
-        next[at] = hear(protocol, sheet, round, mail, i, column, &mut inbox[..len]);
+        wall[at] = hear(protocol, sheet, round, mail, i, column, &mut inbox[..len]);
     }
-    next
+    wall
 }

@@ -49,19 +49,18 @@ pub(super) fn speak_all(
     protocol: Protocol,
     sheet: &[u8],
     width: u16,
-    wall: [Column; 31],
+    mut wall: [Column; 31],
     mail: &mut [u16],
 ) -> [Column; 31]
     requires { ⌜ Space (columns (now sheet)) width (now mail) ⌝ }
     ensures { λ r. ⌜ (r ≡ each (columns (now (sheet .entry))) (spoken protocol (now (sheet .entry)) width) wall) × (now (mail .exit) ≡ mailOf protocol (now (sheet .entry)) width wall) ⌝ }
 {
     let n = sheet::columns(sheet);
-    let mut next = wall;
     for j in 0..n {
         let i = j as usize;
         let column = wall[i];
         let at = space::of_many(sheet, width, j);
-        next[i] = say(protocol, sheet, width, j, column, &mut mail[at..]);
+        wall[i] = say(protocol, sheet, width, j, column, &mut mail[at..]);
     }
-    next
+    wall
 }

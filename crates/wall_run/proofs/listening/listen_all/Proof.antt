@@ -5,7 +5,7 @@ use native.Mathlib.Omega.{arith}
 use lib.ListN.{length, length-replicate}
 use lib.Seq.{length-take-le, length-front}
 use Rattle.lists.specs.Entries.{getD-within}
-use Rattle.lists.specs.Loops.{Filled, filled-none, filled-more, filled-part}
+use Rattle.lists.specs.Loops.{Filled, filled-none, filled-more, filled-read, filled-part}
 use Rattle.agreement.specs.Calls.{noColumn}
 use Rattle.sheet.specs.Sheet.{columns}
 use Rattle.wall_run.specs.Run.{turned, each, heard}
@@ -13,10 +13,10 @@ use Rattle.wall_run.proofs.listening.listen_all.Statement.{statement}
 use Rattle.wall_run.proofs.listening.listen_all.Tie as tie
 
 abbrev Inv-loop : tie.InvT-loop
-Inv-loop protocol sheet round mail wall n len inbox₀ next₀ i₀ inbox next i = Filled (turned (heard protocol sheet round mail) wall) (columns sheet) next₀ next i × (length inbox ≡ 2048)
+Inv-loop protocol sheet round mail wall₀ n len inbox₀ i₀ wall inbox i = Filled (turned (heard protocol sheet round mail) wall₀) (columns sheet) wall₀ wall i × (length inbox ≡ 2048)
 
 abbrev μ-loop : tie.MeasureT-loop
-μ-loop protocol sheet round mail wall n len inbox₀ next₀ i₀ inbox next i = n - i
+μ-loop protocol sheet round mail wall₀ n len inbox₀ i₀ wall inbox i = n - i
 
 columns-requires : tie.Need-columns-requires Inv-loop μ-loop
 columns-requires c κs = tt
@@ -45,11 +45,11 @@ slice-aggregate-hear c = sym (length-take-le _ _ (omega (arith, c .before .befor
 hear-requires : tie.Need-hear-requires Inv-loop μ-loop
 hear-requires c κs = (omega (arith, c .before .before .before .before .before .columns .ensures, c .before .before .before .before .before .before .before .before .pre .0), length-take-le _ _ (omega (arith, c .before .before .before .before .of-one .ensures, c .before .before .before .before .before .before .before .before .pre .1, c .before .before .before .loop .inv .1)) ∙ c .before .before .before .before .of-one .ensures)
 
-mul-next : tie.Need-mul-next Inv-loop μ-loop
-mul-next c = omega (arith, c .before .before .before .before .before .before .before .columns .ensures, c .before .before .before .before .before .before .before .before .before .before .pre .0)
+mul-wall : tie.Need-mul-wall Inv-loop μ-loop
+mul-wall c = omega (arith, c .before .before .before .before .before .before .before .columns .ensures, c .before .before .before .before .before .before .before .before .before .before .pre .0)
 
-array-set-from-next : tie.Need-array-set-from-next Inv-loop μ-loop
-array-set-from-next c = omega (arith, c .before .before .before .before .before .before .before .columns .ensures, c .before .before .before .before .before .before .before .before .before .before .pre .0)
+array-set-from-wall : tie.Need-array-set-from-wall Inv-loop μ-loop
+array-set-from-wall c = omega (arith, c .before .before .before .before .before .before .before .columns .ensures, c .before .before .before .before .before .before .before .before .before .before .pre .0)
 
 add-i : tie.Need-add-i Inv-loop μ-loop
 add-i c = omega arith
@@ -63,8 +63,9 @@ loop-again c =
     let a = c .before .before .before .before .before .before .before .before .before .before .args in
     let i = c .before .before .before .before .before .loop .i in
     let inside : i < columns (a .sheet .now) = omega (arith, c .before .before .before .before .before .before .before .columns .ensures) in
-    let read = getD-within (a .t5) i _ noColumn (omega (arith, c .before .before .before .before .before .before .before .before .before .before .pre .0, c .before .before .before .before .before .before .before .before .before .before .good .1 .1 .1 .1 .0 .1 .0 .1)) in
-    (filled-more _ _ _ _ _ _ (c .before .before .before .before .before .loop .inv .0) inside (c .before .hear .ensures ∙ ap (heard (a .protocol) (a .sheet .now) (a .round) (a .mail .now) (i + 1)) read), length-front (c .before .before .before .before .before .loop .inbox) (c .before .hear .last .1 .1 .1 .1 .1 .1 .0) (c .before .before .before .before .before .before .of-one .result) (c .before .hear .kept .1 .1 .1 .1 .1 .1 .0) ∙ c .before .before .before .before .before .loop .inv .1)
+    let so-far = c .before .before .before .before .before .loop .inv .0 in
+    let read = getD-within (c .before .before .before .before .before .loop .wall) i _ noColumn (omega (arith, so-far .same, so-far .size)) ∙ filled-read _ _ _ _ i noColumn so-far in
+    (filled-more _ _ _ _ _ _ so-far inside (c .before .hear .ensures ∙ ap (heard (a .protocol) (a .sheet .now) (a .round) (a .mail .now) (i + 1)) read), length-front (c .before .before .before .before .before .loop .inbox) (c .before .hear .last .1 .1 .1 .1 .1 .1 .0) (c .before .before .before .before .before .before .of-one .result) (c .before .hear .kept .1 .1 .1 .1 .1 .1 .0) ∙ c .before .before .before .before .before .loop .inv .1)
 
 returns : tie.Need-returns Inv-loop μ-loop
 unfolding each
@@ -85,8 +86,8 @@ listen-all-spec =
     array-borrow-prefix-inbox
     slice-aggregate-hear
     hear-requires
-    mul-next
-    array-set-from-next
+    mul-wall
+    array-set-from-wall
     add-i
     loop-less
     loop-again

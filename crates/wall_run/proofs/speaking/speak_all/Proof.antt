@@ -9,7 +9,7 @@ use Rattle.messages.specs.Messages.{said}
 use Rattle.agreement.specs.declared.Column.{Column}
 use Rattle.field.specs.Field.{blank}
 use Rattle.lists.specs.Entries.{getD-within}
-use Rattle.lists.specs.Loops.{Filled, filled-none, filled-more, filled-part, Rowed, rowed-none, rowed-fits, rowed-more, rowed-room, rowed-done}
+use Rattle.lists.specs.Loops.{Filled, filled-none, filled-more, filled-read, filled-part, Rowed, rowed-none, rowed-fits, rowed-more, rowed-room, rowed-done}
 use Rattle.agreement.specs.Calls.{noColumn}
 use Rattle.sheet.specs.Sheet.{columns}
 use Rattle.wall_run.specs.Run.{columnAt, turned, each, spoken, words, wordsOf, mail}
@@ -18,10 +18,10 @@ use Rattle.wall_run.proofs.speaking.speak_all.Statement.{statement}
 use Rattle.wall_run.proofs.speaking.speak_all.Tie as tie
 
 abbrev Inv-loop : tie.InvT-loop
-Inv-loop protocol sheet width mail₀ wall n next₀ j₀ mail next j = Filled (turned (spoken protocol sheet width) wall) (columns sheet) next₀ next j × Rowed (wordsOf protocol sheet width wall) (columns sheet * width) (columns sheet) mail₀ mail j
+Inv-loop protocol sheet width mail₀ wall₀ n j₀ mail wall j = Filled (turned (spoken protocol sheet width) wall₀) (columns sheet) wall₀ wall j × Rowed (wordsOf protocol sheet width wall₀) (columns sheet * width) (columns sheet) mail₀ mail j
 
 abbrev μ-loop : tie.MeasureT-loop
-μ-loop protocol sheet width mail₀ wall n next₀ j₀ mail next j = n - j
+μ-loop protocol sheet width mail₀ wall₀ n j₀ mail wall j = n - j
 
 columns-requires : tie.Need-columns-requires Inv-loop μ-loop
 columns-requires c κs = tt
@@ -62,11 +62,11 @@ say-requires c κs =
     let at = c .before .of-many .ensures in
     (omega (arith, s .few), rowed-room _ _ _ _ _ _ _ (c .before .before .before .before .loop .inv .1) inside at, blank-part _ _ _ _ _ _ _ (s .blank-all) (c .before .before .before .before .loop .inv .1) inside at)
 
-mul-next : tie.Need-mul-next Inv-loop μ-loop
-mul-next c = omega (arith, c .before .before .before .before .before .before .before .before .columns .ensures, c .before .before .before .before .before .before .before .before .before .before .before .pre .few)
+mul-wall : tie.Need-mul-wall Inv-loop μ-loop
+mul-wall c = omega (arith, c .before .before .before .before .before .before .before .before .columns .ensures, c .before .before .before .before .before .before .before .before .before .before .before .pre .few)
 
-array-set-from-next : tie.Need-array-set-from-next Inv-loop μ-loop
-array-set-from-next c = omega (arith, c .before .before .before .before .before .before .before .before .columns .ensures, c .before .before .before .before .before .before .before .before .before .before .before .pre .few)
+array-set-from-wall : tie.Need-array-set-from-wall Inv-loop μ-loop
+array-set-from-wall c = omega (arith, c .before .before .before .before .before .before .before .before .columns .ensures, c .before .before .before .before .before .before .before .before .before .before .before .pre .few)
 
 add-j : tie.Need-add-j Inv-loop μ-loop
 add-j c = omega arith
@@ -80,10 +80,11 @@ loop-again c =
     let a = c .before .before .before .before .before .before .before .before .before .before .before .args in
     let j = c .before .before .before .before .before .before .before .loop .j in
     let inside : j < columns (a .sheet .now) = omega (arith, c .before .before .before .before .before .before .before .before .columns .ensures) in
-    let read = getD-within (a .t4) j _ noColumn (omega (arith, c .before .before .before .before .before .before .before .before .before .before .before .pre .few, c .before .before .before .before .before .before .before .before .before .before .before .good .1 .1 .1 .0 .1 .0 .1)) in
+    let so-far = c .before .before .before .before .before .before .before .loop .inv .0 in
+    let read = getD-within (c .before .before .before .before .before .before .before .loop .wall) j _ noColumn (omega (arith, so-far .same, so-far .size)) ∙ filled-read _ _ _ _ j noColumn so-far in
     let w = columns (a .sheet .now) * a .width in
     let part = take (length (c .before .before .before .before .before .before .before .loop .mail) - c .before .before .before .before .of-many .result) (drop (c .before .before .before .before .of-many .result) (c .before .before .before .before .before .before .before .loop .mail)) in
-    (filled-more _ _ _ _ _ _ (c .before .before .before .before .before .before .before .loop .inv .0) inside (c .before .before .say .ensures .0 ∙ ap (spoken (a .protocol) (a .sheet .now) (a .width) (j + 1)) read), rowed-more _ _ _ _ _ _ _ _ (c .before .before .before .before .before .before .before .loop .inv .1) inside (c .before .before .before .before .of-many .ensures) (c .before .before .say .ensures .1 ∙ ap (λ (x : Column). listOf (said (words (a .protocol) (a .sheet .now) (a .width) (j + 1) x)) w ++ drop w part) (read ∙ ap (λ (k : ℕ). getD (a .t4) k noColumn) {x = j} {y = j + 1 - 1} (omega arith))))
+    (filled-more _ _ _ _ _ _ so-far inside (c .before .before .say .ensures .0 ∙ ap (spoken (a .protocol) (a .sheet .now) (a .width) (j + 1)) read), rowed-more _ _ _ _ _ _ _ _ (c .before .before .before .before .before .before .before .loop .inv .1) inside (c .before .before .before .before .of-many .ensures) (c .before .before .say .ensures .1 ∙ ap (λ (x : Column). listOf (said (words (a .protocol) (a .sheet .now) (a .width) (j + 1) x)) w ++ drop w part) (read ∙ ap (λ (k : ℕ). getD (a .t4) k noColumn) {x = j} {y = j + 1 - 1} (omega arith))))
 
 same-length : tie.Need-same-length Inv-loop μ-loop
 same-length c = c .before .loop .inv .1 .same
@@ -111,8 +112,8 @@ speak-all-spec =
     part-say-start
     part-say-end
     say-requires
-    mul-next
-    array-set-from-next
+    mul-wall
+    array-set-from-wall
     add-j
     loop-less
     loop-again

@@ -23,21 +23,15 @@ returns : tie.Need-returns
 unfolding sent
 returns c = rw (sym (c .before .before .before .sound .ensures) ∙ c .before .before .if1 .taken) (rw (c .before .columns .ensures) at (c .mailed .ensures))
 
-cast-line-value : tie.Need-cast-line-value
-cast-line-value c = search needs
-
-add-line-value : tie.Need-add-line-value
-add-line-value c = search needs
-
-line-value-requires : tie.Need-line-value-requires
-line-value-requires c κs = search needs
+lied-requires : tie.Need-lied-requires
+lied-requires c κs = search needs
 
 returns-2 : tie.Need-returns-2
 unfolding sent lied
 returns-2 c =
-    let a = c .before .before .before .before .before .before .args in
+    let a = c .before .before .before .before .before .args in
     let j : a .j + 1 - 1 ≡ a .j = omega arith in
-    rw (sym (c .before .before .before .sound .ensures) ∙ c .before .before .if1 .left, j, sym (c .before .before .before .before .before .before .pre .1)) (c .line-value .ensures)
+    rw (sym (c .before .before .sound .ensures) ∙ c .before .if1 .left, j, sym (c .before .before .before .before .before .pre .1)) (c .lied .ensures)
 
 pub sent-spec : {M : Type 1} → statement M
 sent-spec =
@@ -48,7 +42,5 @@ sent-spec =
     columns-requires
     mailed-requires
     returns
-    cast-line-value
-    add-line-value
-    line-value-requires
+    lied-requires
     returns-2)

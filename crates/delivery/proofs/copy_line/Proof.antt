@@ -1,0 +1,60 @@
+-- `copy_line` meets its contract.
+use Prim.Native.Nat.{ℕ, _+_, _-_}
+use native.Mathlib.Omega.{arith}
+use Rattle.lists.specs.Loops.{Filled, filled-none, filled-more, filled-part}
+use Rattle.sheet.specs.Sheet.{lineValue}
+use Rattle.delivery.proofs.copy_line.Statement.{statement}
+use Rattle.delivery.proofs.copy_line.Tie as tie
+
+abbrev Inv-loop : tie.InvT-loop
+Inv-loop sheet round to earlier part₀ width k₀ part k = Filled (λ (q : ℕ). lineValue (round .line) sheet earlier (to + 1) (round .offset + q)) width part₀ part k
+
+abbrev μ-loop : tie.MeasureT-loop
+μ-loop sheet round to earlier part₀ width k₀ part k = width - k
+
+loop-holds : tie.Need-loop-holds Inv-loop μ-loop
+loop-holds c = filled-none _ _ _ (c .before .before .pre)
+
+cast-at : tie.Need-cast-at Inv-loop μ-loop
+cast-at c = omega arith
+
+lied-requires : tie.Need-lied-requires Inv-loop μ-loop
+lied-requires c κs = tt
+
+mul-part : tie.Need-mul-part Inv-loop μ-loop
+mul-part c = omega (arith, c .before .before .loop .inv .size, c .before .before .loop .inv .same, c .before .before .before .before .before .good)
+
+slice-write-part : tie.Need-slice-write-part Inv-loop μ-loop
+slice-write-part c = omega (arith, c .before .before .loop .inv .size, c .before .before .loop .inv .same)
+
+add-k : tie.Need-add-k Inv-loop μ-loop
+add-k c = omega arith
+
+loop-less : tie.Need-loop-less Inv-loop μ-loop
+loop-less c = omega arith
+
+loop-again : tie.Need-loop-again Inv-loop μ-loop
+loop-again c = filled-more _ _ _ _ _ _ (c .before .before .loop .inv) (omega arith) (c .lied .ensures)
+
+same-length : tie.Need-same-length Inv-loop μ-loop
+same-length c = c .before .loop .inv .same
+
+returns : tie.Need-returns Inv-loop μ-loop
+returns c = filled-part _ _ _ _ _ (c .before .loop .inv) (omega arith)
+
+pub copy-line-spec : {M : Type 1} → statement M
+copy-line-spec =
+    tie.close
+    (tie.spec
+    Inv-loop
+    μ-loop
+    loop-holds
+    cast-at
+    lied-requires
+    mul-part
+    slice-write-part
+    add-k
+    loop-less
+    loop-again
+    same-length
+    returns)

@@ -1,15 +1,14 @@
 -- Why each answer that the code gives is the definition's.
-use mathlib.Core.Path.{_≡_, refl, sym, ap, _∙_}
+use mathlib.Core.Path.{_≡_, refl, sym, ap, subst, _∙_}
 use mathlib.Core.Bool.{Bool, not, _&&_}
 use mathlib.Core.List.{List, [], _∷_, map}
-use Prim.Native.Nat.{ℕ, suc, _+_, _-_, _*_, _≤_, _<_}
+use Prim.Native.Nat.{ℕ, zero, suc, _+_, _-_, _*_, _≤_, _<_}
 use native.Mathlib.Nat.{mod-eq-of-lt, mul-comm, mul-zero}
 use native.Mathlib.Decide.{decLe}
 use native.Mathlib.Omega.{arith}
-use lib.Dec.{T, T-not, eqb, eqb→eq, ltb, ltb→lt, lt→ltb, leb, le→leb}
-use lib.ListN.{length, length-map, getD, take}
-use lib.Seq.{length-take-le}
-use Rattle.lists.specs.Lists.{count}
+use lib.Dec.{T, T-not, lit<, eqb, eqb→eq, ltb, ltb→lt, lt→ltb, leb, le→leb}
+use lib.ListN.{length, length-map, getD}
+use Rattle.lists.specs.Lists.{count, Below}
 use Rattle.lists.specs.Tests.{and-left, and-right, and-both, eq→eqb}
 use Rattle.lists.specs.Count.{mono, cover, longer, count-same}
 use Rattle.field.specs.Field.{of}
@@ -25,7 +24,7 @@ use Rattle.messages.specs.Messages.{said, from as at}
 use Rattle.decoder.specs.Decoder.{meetsAt, hits, IsAnswer, through, coefficients, decoded, four}
 use Rattle.decoder.specs.Interpolation.{Rising, On, map-on, through-on, through-length, through-below}
 use Rattle.decoder.specs.Exactly.{Accepts, sizes, is-answer, no-answer}
-use Rattle.decoder.specs.Places.{presentAt, usable, Chain, chain-take, Chosen, chain-chosen}
+use Rattle.decoder.specs.Places.{presentAt, usable, Chain, Chosen, chain-chosen}
 use Rattle.decoder.specs.declared.Coefficients.{Coefficients}
 use Rattle.decoder.specs.declared.Decoded.the-variants.{Polynomial, Nothing}
 
@@ -43,29 +42,59 @@ value-four (a ∷ b ∷ c ∷ d ∷ e ∷ f) x h = absurd (omega arith)
 hits-four : (f : List ℕ) (y : ℕ → ℕ) (n : ℕ) → length f ≤ 4 → hits (four (coefficients f)) y n ≡ hits f y n
 hits-four f y n h = count-same (meetsAt (four (coefficients f)) y) (meetsAt f y) n (λ i l u. ap (λ (z : ℕ). eqb z (y i)) (value-four f i h))
 
--- c is the polynomial through the points at the first k usable places
+below-four : (f : List ℕ) → Below 257 f → Below 257 (four (coefficients f))
+below-four f h zero = h 0
+below-four f h (suc zero) = h 1
+below-four f h (suc (suc zero)) = h 2
+below-four f h (suc (suc (suc zero))) = h 3
+below-four f h (suc (suc (suc (suc i)))) = lit< tt
+
+-- c is the polynomial through the points at k places
+pub record Through (points xs : List ℕ) (k : ℕ) (c : Coefficients) : Type 0 where
+  pub size : length xs ≡ k
+  pub is : c ≡ coefficients (through xs (map (at points) xs))
+
+pub through-small : (points xs : List ℕ) (k : ℕ) (c : Coefficients) → Through points xs k c → Below 257 (four c)
+through-small points xs k c p =
+    subst (λ (c : Coefficients). Below 257 (four c)) (sym (p .is)) (below-four (through xs (map (at points) xs)) (through-below xs (map (at points) xs)))
+
+-- and the places are the first k usable ones
 pub record Candidate (points es : List ℕ) (k : ℕ) (c : Coefficients) : Type 0 where
   pub xs : List ℕ
-  pub size : length xs ≡ 4
   pub chain : Chain (usable points es) 1 xs
-  pub is : c ≡ coefficients (through (take k xs) (map (at points) (take k xs)))
+  pub goes : Through points xs k c
+
+-- n points, and t and k of their wall
+pub record Given (n t k : ℕ) (points : List ℕ) : Type 0 where
+  pub accepts : Accepts n points
+  pub faults-is : t ≡ faults n
+  pub size-is : k ≡ degree n + 1
 
 module _ (n : ℕ) (points : List ℕ) (a : Accepts n points) where
   -- A POLYNOMIAL THROUGH SOME POINTS THAT MEETS ENOUGH OF THEM
 
-  pub met : (es : List ℕ) (k : ℕ) (c : Coefficients) → k ≡ degree n + 1 → Candidate points es k c → n - faults n ≤ hits (four c) (at points) n
+  pub met : (xs : List ℕ) (k : ℕ) (c : Coefficients) → k ≡ degree n + 1 → Through points xs k c → n - faults n ≤ hits (four c) (at points) n
       → Polynomial c ≡ decoded n points
-  met es k c ek p h =
-      let xs : List ℕ = take k (p .xs) in
+  met xs k c ek p h =
       let f : List ℕ = through xs (map (at points) xs) in
-      let s : length xs ≡ k = length-take-le k (p .xs) (omega (arith, p .size, sizes n points a .degree-high)) in
       let l : length f ≡ length xs = through-length xs (map (at points) xs) (sym (length-map xs (at points))) in
       ap Polynomial (p .is)
       ∙ sym (is-answer n points a f (record {
-        size = l ∙ s ∙ ek;
+        size = l ∙ p .size ∙ ek;
         small = through-below xs (map (at points) xs);
-        meets = omega (arith, hits-four f (at points) n (omega (arith, sizes n points a .degree-high)), ap (λ (c : Coefficients). hits (four c) (at points) n) (p .is));
+        meets = omega (arith, hits-four f (at points) n (omega (arith, p .size, sizes n points a .degree-high)), ap (λ (c : Coefficients). hits (four c) (at points) n) (p .is));
       }))
+
+  -- and one through points that an answer meets is that answer, and does
+  pub meets-too : (xs : List ℕ) (k : ℕ) (c : Coefficients) (f : List ℕ) → Through points xs k c → IsAnswer n points f → through xs (map (at points) xs) ≡ f
+      → n - faults n ≤ hits (four c) (at points) n
+  meets-too xs k c f p i same =
+      omega (
+        arith,
+        i .meets,
+        hits-four f (at points) n (omega (arith, i .size, sizes n points a .degree-high)),
+        ap (λ (c : Coefficients). hits (four c) (at points) n) (p .is ∙ ap (λ (g : List ℕ). coefficients g) same),
+      )
 
   -- TOO FEW POINTS
 
@@ -164,15 +193,7 @@ module _ (n : ℕ) (points : List ℕ) (a : Accepts n points) where
       → hits (four c) (at points) n < n - faults n → Nothing ≡ decoded n points
   none-left es k c ek loc p h =
       sym (no-answer n points a (λ f i.
-      let xs : List ℕ = take k (p .xs) in
-      let s : length xs ≡ k = length-take-le k (p .xs) (omega (arith, p .size, sizes n points a .degree-high)) in
-      let same : through xs (map (at points) xs) ≡ f = only es loc f i xs (chain-take (usable points es) k 1 (p .xs) (p .chain)) (s ∙ ek) in
-      omega (
-        arith,
-        i .meets,
-        hits-four f (at points) n (omega (arith, i .size, sizes n points a .degree-high)),
-        ap (λ (c : Coefficients). hits (four c) (at points) n) (p .is ∙ ap (λ (g : List ℕ). coefficients g) same),
-      )))
+      omega (arith, meets-too (p .xs) k c f (p .goes) i (only es loc f i (p .xs) (p .chain) (p .goes .size ∙ ek)))))
 
   -- the locator of the code
   pub code-locates : (w : ℕ) (es : List ℕ) → w ≡ n - 2 * faults n - 1 → es ≡ located w points → Locates n (faults n) points es

@@ -34,10 +34,10 @@ pushed v r q =
       c3 = of (q .c2);
     }
 
-abbrev make : ℕ → ℕ → ℕ → ℕ → Coefficients
+abbrev pub make : ℕ → ℕ → ℕ → ℕ → Coefficients
 make a b c d = record { c0 = a; c1 = b; c2 = c; c3 = d }
 
-same : {a a′ b b′ c c′ d d′ : ℕ} → a ≡ a′ → b ≡ b′ → c ≡ c′ → d ≡ d′ → make a b c d ≡ make a′ b′ c′ d′
+pub same : {a a′ b b′ c c′ d d′ : ℕ} → a ≡ a′ → b ≡ b′ → c ≡ c′ → d ≡ d′ → make a b c d ≡ make a′ b′ c′ d′
 same p q r s = cc
 
 push-is : (v r : ℕ) (q : List ℕ) → length q ≤ 3 → coefficients (under v r q) ≡ pushed v r (coefficients q)

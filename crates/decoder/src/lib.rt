@@ -1,20 +1,22 @@
 // The decoder: of n points, the polynomial of degree at most d that meets at least n - t of them, or none. A polynomial that meets that
-// many is the answer, however it was found. Where the one through the first points does not, an error locator says which points to trust.
+// many is the answer, however it was found. Where it has one or two coefficients, it is one of those through neighbouring points. Where it has
+// more and the one through the first points is not it, an error locator says which points to trust.
 use field::Field;
 ghost use mathlib.Core.Path.{_≡_};
 ghost use mathlib.Core.Bool.{cond};
 ghost use mathlib.Core.List.{map};
-ghost use Prim.Native.Nat.{_+_, _-_, _<_, _≤_};
+ghost use Prim.Native.Nat.{_+_, _-_, _*_, _<_, _≤_};
 ghost use lib.Dec.{eqb, ltb};
 ghost use lib.ListN.{length, take};
-ghost use Rattle.lists.specs.Lists.{bit, count};
-ghost use Rattle.field.specs.Field.{subtract, multiply};
+ghost use Rattle.lists.specs.Lists.{bit, count, Below};
+ghost use Rattle.field.specs.Field.{of, subtract, multiply};
 ghost use Rattle.block.specs.Block.{value as valueOf};
 ghost use Rattle.messages.specs.Messages.{from as at};
 ghost use Rattle.decoder.specs.Decoder.{hits as hitsOf, slope as slopeOf, slopes as slopesOf, through as throughOf, coefficients, four, decoded};
 ghost use Rattle.decoder.specs.Exactly.{Accepts};
 ghost use Rattle.decoder.specs.Places.{presentAt, usable as usableOf, Next, Chain};
-ghost use Rattle.decoder.specs.Answers.{Candidate};
+ghost use Rattle.decoder.specs.Answers.{Given, Through, Candidate};
+ghost use Rattle.decoder.specs.Windows.{window as windowOf};
 ghost use Rattle.decoder.specs.Steps.{listed, tailOf, pushed};
 
 // A polynomial, its constant term first; coefficients that it does not have are 0.
@@ -39,18 +41,26 @@ struct Four {
     d: u16,
 }
 
+// c plus x times v. No such sum reaches 65536, so that the machine does eight places at a time.
+fn plus_times(c: u16, x: u16, v: u16) -> u16
+    requires { ⌜ (c < 257) × (x ≤ 31) × (v < 257) ⌝ }
+    ensures { λ r. ⌜ (r < 257) × (r ≡ of (c + x * v)) ⌝ }
+{
+    (c + x * v) % Field::MODULUS
+}
+
 // The value of a polynomial at x.
 fn value(c: Coefficients, x: u16) -> u16
+    requires { ⌜ (x ≤ 31) × Below 257 (four c) ⌝ }
     ensures { λ r. ⌜ r ≡ valueOf (four c) x ⌝ }
 {
-    let p = Field(x);
-    let three = Field::add_product(Field(c.c2), p, Field::of(c.c3));
-    let all = Field::add_product(Field(c.c0), p, Field::add_product(Field(c.c1), p, three));
-    all.0
+    let last = plus_times(c.c2, x, c.c3);
+    plus_times(c.c0, x, plus_times(c.c1, x, last))
 }
 
 // 1 where a polynomial has the value y at x, else 0.
-fn hit(c: Coefficients, x: u16, y: u16) -> usize
+fn hit(c: Coefficients, x: u16, y: u16) -> u16
+    requires { ⌜ (x ≤ 31) × Below 257 (four c) ⌝ }
     ensures { λ r. ⌜ r ≡ bit (eqb (valueOf (four c) x) y) ⌝ }
 {
     if value(c, x) == y {
@@ -61,18 +71,18 @@ fn hit(c: Coefficients, x: u16, y: u16) -> usize
 
 // How many of the points a polynomial meets.
 fn hits(n: usize, points: &[u16], c: Coefficients) -> usize
-    requires { ⌜ (n ≤ 31) × (length (now points) ≡ n) ⌝ }
+    requires { ⌜ (n ≤ 31) × (length (now points) ≡ n) × Below 257 (four c) ⌝ }
     ensures { λ r. ⌜ r ≡ hitsOf (four c) (at (now (points .entry))) n ⌝ }
 {
-    let mut sum = 0usize;
+    let mut sum = 0u16;
     for i in 0..n {
         sum += hit(c, (i + 1) as u16, points[i]);
     }
-    sum
+    sum as usize
 }
 
 // 1 for a point, 0 for a blank.
-fn one_if_point(y: u16) -> usize
+fn one_if_point(y: u16) -> u16
     ensures { λ r. ⌜ r ≡ bit (ltb y 257) ⌝ }
 {
     if y < 257 {
@@ -86,11 +96,11 @@ fn present(n: usize, points: &[u16]) -> usize
     requires { ⌜ (n ≤ 31) × (length (now points) ≡ n) ⌝ }
     ensures { λ r. ⌜ r ≡ count (presentAt (now (points .entry))) n ⌝ }
 {
-    let mut sum = 0usize;
+    let mut sum = 0u16;
     for i in 0..n {
         sum += one_if_point(points[i]);
     }
-    sum
+    sum as usize
 }
 
 // The slope from the value v at r to the value u at x; 0 where it is not wanted.
@@ -242,8 +252,69 @@ fn candidate(k: usize, points: &[u16], es: &[u16; 64]) -> Coefficients
     through(k, x, values_at(points, x))
 }
 
-// The answer for n points where nothing is refused: first the polynomial through the first points, then the one through the first
-// points that the locator leaves. If that one does not meet enough either, none does.
+// By how much a polynomial of k coefficients, one or two, rises from the value v to the value u at the next place.
+fn rise(k: usize, v: u16, u: u16) -> u16
+    ensures { λ r. ⌜ r ≡ cond (ltb 1 k) (subtract u v) 0 ⌝ }
+{
+    if 1 < k {
+        let up = Field::subtract(Field(u), Field(v));
+        return up.0;
+    }
+    0
+}
+
+// The polynomial of k coefficients, one or two, through the points of a window: at the k places after place a.
+fn window(k: usize, points: &[u16], a: u16) -> Coefficients
+    requires { ⌜ (1 ≤ k) × (k ≤ 2) × (a ≤ 1000) ⌝ }
+    ensures { λ r. ⌜ Through (now (points .entry)) (windowOf a k) k r ⌝ }
+{
+    let v = at_place(points, a + 1);
+    let up = rise(k, v, at_place(points, a + 2));
+    Coefficients {
+        c0: difference(v, a + 1, up),
+        c1: up,
+        c2: 0,
+        c3: 0,
+    }
+}
+
+// The answer for polynomials of k coefficients, one or two: t + 1 windows of k places lie side by side. A polynomial that meets enough
+// misses t places at most, so there is a window where it misses none, and it is the one through the points there.
+fn by_windows(n: usize, t: usize, k: usize, points: &[u16]) -> Decoded
+    requires { ⌜ Given n t k (now points) × (k ≤ 2) ⌝ }
+    ensures { λ r. ⌜ r ≡ decoded n (now (points .entry)) ⌝ }
+{
+    let mut a = 0usize;
+    for _ in 0..t + 1 {
+        let c = window(k, points, a as u16);
+        if n - t <= hits(n, points, c) {
+            return Decoded::Polynomial(c);
+        }
+        a += k;
+    }
+    Decoded::Nothing
+}
+
+// The answer for polynomials of any size: first the one through the first points, then the one through the first points that the
+// locator leaves. If that one does not meet enough either, none does.
+fn by_locator(n: usize, t: usize, k: usize, points: &[u16]) -> Decoded
+    requires { ⌜ Given n t k (now points) ⌝ }
+    ensures { λ r. ⌜ r ≡ decoded n (now (points .entry)) ⌝ }
+{
+    let everywhere = [1u16; 64];
+    let quick = candidate(k, points, &everywhere);
+    if n - t <= hits(n, points, quick) {
+        return Decoded::Polynomial(quick);
+    }
+    let es = locator::locate((n - 2 * t - 1) as u8, points);
+    let last = candidate(k, points, &es);
+    if n - t <= hits(n, points, last) {
+        return Decoded::Polynomial(last);
+    }
+    Decoded::Nothing
+}
+
+// The answer for n points where nothing is refused.
 fn answer(n: u8, points: &[u16]) -> Decoded
     requires { ⌜ Accepts n (now points) ⌝ }
     ensures { λ r. ⌜ r ≡ decoded n (now (points .entry)) ⌝ }
@@ -255,17 +326,10 @@ fn answer(n: u8, points: &[u16]) -> Decoded
     if present(all, points) < need {
         return Decoded::Nothing;
     }
-    let everywhere = [1u16; 64];
-    let quick = candidate(k, points, &everywhere);
-    if need <= hits(all, points, quick) {
-        return Decoded::Polynomial(quick);
+    if k <= 2 {
+        return by_windows(all, t, k, points);
     }
-    let es = locator::locate((all - 2 * t - 1) as u8, points);
-    let last = candidate(k, points, &es);
-    if need <= hits(all, points, last) {
-        return Decoded::Polynomial(last);
-    }
-    Decoded::Nothing
+    by_locator(all, t, k, points)
 }
 
 // The polynomial of degree at most d that meets at least n - t of the n points, or none. It refuses n outside 4 to 31 with 1, and a

@@ -2,12 +2,11 @@
 use mathlib.Core.Path.{ap, sym, _∙_}
 use borrow.Author.Tests.{eq-eqb, ne-eqb}
 use Rattle.lists.specs.Lists.{bit}
-use borrow.Author.Needs.{needs}
 use Rattle.decoder.proofs.hit.Statement.{statement}
 use Rattle.decoder.proofs.hit.Tie as tie
 
 value-requires : tie.Need-value-requires
-value-requires c κs = search needs
+value-requires c κs = c .pre
 
 returns : tie.Need-returns
 returns c = sym (ap bit (eq-eqb _ _ (sym (c .before .value .ensures) ∙ c .if1 .taken)))

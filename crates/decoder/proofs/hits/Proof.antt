@@ -35,7 +35,7 @@ shared-slice-read-hit : tie.Need-shared-slice-read-hit Inv-loop μ-loop
 shared-slice-read-hit c = omega arith
 
 hit-requires : tie.Need-hit-requires Inv-loop μ-loop
-hit-requires c κs = tt
+hit-requires c κs = (omega arith, c .before .before .before .before .pre .2)
 
 add-sum : tie.Need-add-sum Inv-loop μ-loop
 add-sum c =
@@ -56,6 +56,9 @@ loop-again c =
     counted-more _ _ _ _ _ (l .inv) (omega arith)
     (c .hit .ensures ∙ ap (λ (y : ℕ). bit (eqb (value (four (a .args .c)) (l .i + 1)) y)) (at-index (a .args .points .now) (l .i) (omega (arith, a .pre .1))))
 
+cast-result : tie.Need-cast-result Inv-loop μ-loop
+cast-result c = omega arith
+
 returns : tie.Need-returns Inv-loop μ-loop
 returns c = counted-done _ _ _ _ (c .before .loop .inv) (omega arith)
 
@@ -75,4 +78,5 @@ hits-spec =
     add-i
     loop-less
     loop-again
+    cast-result
     returns)

@@ -47,6 +47,9 @@ loop-again c =
     counted-more _ _ _ _ _ (l .inv) (omega arith)
     (c .one-if-point .ensures ∙ ap (λ (y : ℕ). bit (ltb y 257)) (at-index (a .args .points .now) (l .i) (omega (arith, a .pre .1))))
 
+cast-result : tie.Need-cast-result Inv-loop μ-loop
+cast-result c = omega arith
+
 returns : tie.Need-returns Inv-loop μ-loop
 returns c = counted-done _ _ _ _ (c .before .loop .inv) (omega arith)
 
@@ -64,4 +67,5 @@ present-spec =
     add-i
     loop-less
     loop-again
+    cast-result
     returns)

@@ -1,26 +1,29 @@
 -- The laws of the definitions.
-use mathlib.Core.Path.{_≡_, refl, sym, _∙_}
-use mathlib.Core.Bool.{Bool, true, false, cond, _&&_}
-use mathlib.Core.List.{List}
+use mathlib.Core.Path.{_≡_, refl, sym, ap, ap₂, _∙_}
+use mathlib.Core.Bool.{Bool, true, false, cond, _&&_, _||_}
+use mathlib.Core.List.{List, _++_, append-assoc, append-nil}
 use Prim.Native.Nat.{ℕ, _+_, _-_, _*_, _≤_, _<_}
 use native.Mathlib.Omega.{arith}
 use native.Mathlib.Decide.{decLt}
-use borrow.Author.Tests.{lt-ltb, le-ltb, ne-eqb}
+use borrow.Author.Tests.{lt-ltb, le-ltb, eq-eqb, ne-eqb, eqb-true, eqb-false}
 use lib.Dec.{T, eqb, ltb, eqb→eq}
-use lib.ListN.{length, getD, replicate, length-append, List·getD-append}
-use lib.Seq.{getD-append-add}
-use Rattle.lists.specs.Lists.{count, all, listOf}
-use Rattle.lists.specs.Tests.{conj, and-both, T-ext, eq→eqb}
-use Rattle.lists.specs.Entries.{all-each, each-all, all-same, getD-listOf, listOf-same}
+use lib.ListN.{length, getD, take, drop, replicate, length-drop, List·getD-append}
+use lib.Seq.{take-at, drop-at, drop-drop, getD-append-add}
+use Rattle.lists.specs.Lists.{count, all, listOf, rowsOf}
+use Rattle.lists.specs.Tests.{conj, and-left, and-right, and-both, is-true, T-ext, eq→eqb}
+use Rattle.lists.specs.Entries.{all-each, each-all, all-same, length-listOf, getD-listOf, getD-within, listOf-same, listOf-cut}
+use Rattle.lists.specs.Rows.{row-fits}
+use Rattle.lists.specs.Loops.{all-of, none-behind}
+use Rattle.lists.specs.Count.{count-same}
 use Rattle.field.specs.Field.{blank}
 use Rattle.sizes.specs.Sizes.{blocks, refusal}
-use Rattle.sizes.specs.Laws.{few-blocks}
-use Rattle.messages.specs.Messages.{readPoint, readReport, said, laid, heard, times}
-use Rattle.lists.specs.Count.{count-same}
-use Rattle.messages.specs.Laws.{point-is, same-report, said-laid, heard-same}
-use Rattle.codeword.specs.Codeword.{point, values, meetIn, meets}
+use Rattle.sizes.specs.Laws.{Accepted, accepted, few-blocks}
+use Rattle.messages.specs.Messages.{readPoint, readReport, said, heard, times}
+use Rattle.messages.specs.Laws.{point-is, same-report, same-point, heard-own, heard-other}
+use Rattle.codeword.specs.Codeword.{point, values, meetIn, meets, codewords, across, writtenAcross}
 use Rattle.codeword.specs.Apart.{point-lt, length-values, said-values}
-use Rattle.dispersal.specs.Dispersal.{exchange, agreesIn, agreesWith, agreementAt, agreements, agrees, reportAt, reports, reported, both, readReports, exchangeRefusal, agreed}
+use Rattle.codeword.specs.Words.{across-is, across-written, rows-same}
+use Rattle.dispersal.specs.Dispersal.{exchange, exchanges, agreesIn, agreesWith, agreementAt, agreements, agrees, reportAt, reports, reported, both, readReports, exchangeRefusal, agreed}
 
 -- THE MESSAGE OF THE EXCHANGE
 
@@ -34,35 +37,79 @@ module _ (n m own : ℕ) (bytes : List ℕ) (j : ℕ) where
   unfolding exchange said
   second-value k = rw (length-values n m bytes own) at (getD-append-add (values n m bytes own) (values n m bytes j) k blank)
 
--- two parts of b values as one message
-unfoldable pub joined : ℕ → List ℕ → List ℕ → ℕ → ℕ
-joined b first second k = cond (ltb k b) (said first k) (said second (k - b))
+-- what b codewords have at the place of the column `own`, then what they have at that of column j
+unfoldable pub paired : ℕ → List ℕ → ℕ → ℕ → ℕ → ℕ
+paired b words own j k = cond (ltb k b) (across words (own - 1) k) (across words (j - 1) (k - b))
 
-pub length-exchange : (n m own : ℕ) (bytes : List ℕ) (j : ℕ) → length (exchange n m own bytes j) ≡ 2 * blocks n m
-unfolding exchange
-length-exchange n m own bytes j =
-    length-append (values n m bytes own) (values n m bytes j) ∙ omega (arith, length-values n m bytes own, length-values n m bytes j)
+paired-list : (b : ℕ) (words : List ℕ) (own j : ℕ) → listOf (across words (own - 1)) b ++ listOf (across words (j - 1)) b ≡ listOf (paired b words own j) (2 * b)
+unfolding paired
+paired-list b words own j =
+    let twice : 2 * b ≡ b + b = omega arith in
+    rw (twice, listOf-cut (paired b words own j) b b)
+    (ap₂ {C = List ℕ} (λ x y. x ++ y)
+    (listOf-same (across words (own - 1)) (paired b words own j) b (λ k l. simp (lt-ltb k b l)))
+    (listOf-same (across words (j - 1)) (λ k. paired b words own j (b + k)) b (λ k l.
+    let e : b + k - b ≡ k = omega arith in
+    rw (le-ltb (b + k) b (omega arith), e) refl)))
 
-module _ (n m : ℕ) (bytes : List ℕ) (small : blocks n m ≤ 32) where
-  in-places : (x : ℕ) (k : ℕ) → said (laid 32 (values n m bytes x)) k ≡ said (values n m bytes x) k
-  in-places x k = said-laid 32 (values n m bytes x) k (omega (arith, length-values n m bytes x))
+-- both were written, those of column j through the part that starts behind the own
+pub paired-written : (b : ℕ) (words : List ℕ) (own j : ℕ) (d d₁ e : List ℕ) → own - 1 < 32 → j - 1 < 32 → 32 * b ≤ length words → 2 * b ≤ length d
+    → d₁ ≡ writtenAcross b words (own - 1) d → e ≡ writtenAcross b words (j - 1) (take (length d₁ - b) (drop b d₁))
+    → take b d₁ ++ (e ++ drop (length d₁ - b) (drop b d₁)) ≡ listOf (paired b words own j) (2 * b) ++ drop (2 * b) d
+paired-written b words own j d d₁ e ho hj hw room p q =
+    let twice : 2 * b ≡ b + b = omega arith in
+    rw (
+      none-behind d₁ b,
+      append-nil,
+      q,
+      all-of d₁ b,
+      first,
+      take-at mine (drop b d) b size,
+      drop-at mine (drop b d) b size,
+      across-written b words (j - 1) (drop b d) (omega (arith, length-drop b d)) hj hw,
+      drop-drop,
+      ← append-assoc,
+      paired-list b words own j,
+      twice,
+    ) refl
+  where
+    mine : List ℕ
+    mine = listOf (across words (own - 1)) b
 
-  joined-value : (x y k : ℕ) → joined (blocks n m) (laid 32 (values n m bytes x)) (laid 32 (values n m bytes y)) k ≡ said (exchange n m x bytes y) k
-  unfolding joined
-  joined-value x y k = go (decLt k (blocks n m))
-    where
-      go : Dec (k < blocks n m) → cond (ltb k (blocks n m)) (said (laid 32 (values n m bytes x)) k) (said (laid 32 (values n m bytes y)) (k - blocks n m)) ≡ said (exchange n m x bytes y) k
-      go (yes l) = rw (lt-ltb k (blocks n m) l) (in-places x k ∙ said-values n m bytes x k l ∙ sym (first-value n m x bytes y k l))
-      go (no l) =
-          let e : blocks n m + (k - blocks n m) ≡ k = omega arith in
-          rw (le-ltb k (blocks n m) (omega arith)) (in-places y (k - blocks n m) ∙ sym (rw e at (second-value n m x bytes y (k - blocks n m))))
+    size : length mine ≡ b
+    size = length-listOf (across words (own - 1)) b
 
-  -- the values at x, then those at y: what x sends y
-  pub joined-exchange : (b x y : ℕ) (first second : List ℕ) → b ≡ blocks n m → first ≡ laid 32 (values n m bytes x) → second ≡ laid 32 (values n m bytes y)
-      → listOf (joined b first second) 64 ≡ laid 64 (exchange n m x bytes y)
-  unfolding laid
-  joined-exchange b x y first second e f g =
-      rw (e, f, g) (listOf-same (joined (blocks n m) (laid 32 (values n m bytes x)) (laid 32 (values n m bytes y))) (said (exchange n m x bytes y)) 64 (λ k _. joined-value x y k))
+    first : d₁ ≡ mine ++ drop b d
+    first = p ∙ across-written b words (own - 1) d (omega arith) ho hw
+
+-- they are the messages of the exchange
+pub paired-is : (n m own : ℕ) (bytes : List ℕ) (b : ℕ) (words : List ℕ) → refusal n m own ≡ 0 → b ≡ blocks n m → words ≡ codewords n m bytes
+    → rowsOf (paired b words own) (2 * b) n ≡ exchanges n m own bytes
+unfolding paired exchanges
+paired-is n m own bytes b words r e f =
+    rw (e, f) (rows-same (paired (blocks n m) (codewords n m bytes) own) (λ j. said (exchange n m own bytes j)) (2 * blocks n m) n (λ j k l u h.
+    go j k (omega (arith, a .range .columns-high)) l h (decLt k (blocks n m))))
+  where
+    a : Accepted n m own
+    a = accepted n m own r
+
+    few : blocks n m ≤ 32
+    few = few-blocks n m own r
+
+    at : (x k : ℕ) → 1 ≤ x → x ≤ 32 → k < 32 → across (codewords n m bytes) (x - 1) k ≡ said (values n m bytes x) k
+    at x k l u h =
+        let place : x - 1 + 1 ≡ x = omega arith in
+        across-is n m bytes (x - 1) k (omega arith) h ∙ ap (λ (y : ℕ). said (values n m bytes y) k) place
+
+    go : (j k : ℕ) → j ≤ 32 → 1 ≤ j → k < 2 * blocks n m → Dec (k < blocks n m) → paired (blocks n m) (codewords n m bytes) own j k ≡ said (exchange n m own bytes j) k
+    go j k u l h (yes s) =
+        rw (lt-ltb k (blocks n m) s)
+        (at own k (a .number-low) (omega (arith, a .number-high, a .range .columns-high)) (omega (arith, few))
+        ∙ said-values n m bytes own k s ∙ sym (first-value n m own bytes j k s))
+    go j k u l h (no s) =
+        let back : blocks n m + (k - blocks n m) ≡ k = omega arith in
+        rw (le-ltb k (blocks n m) (omega arith))
+        (at j (k - blocks n m) l u (omega (arith, few)) ∙ sym (rw back at (second-value n m own bytes j (k - blocks n m))))
 
 -- AGREEMENT
 
@@ -85,59 +132,117 @@ module _ (n m own : ℕ) (bytes : List ℕ) (j : ℕ) (received : ℕ → ℕ) w
       and-both (eqb (readPoint (received k)) (point n bytes j k)) (eqb (readPoint (received (blocks n m + k))) (point n bytes own k))
       (eq→eqb (readPoint (received k)) (point n bytes j k) (f k l)) (eq→eqb (readPoint (received (blocks n m + k))) (point n bytes own k) (g k l)))
 
--- value k is the expected one
-unfoldable pub sameIn : List ℕ → (ℕ → ℕ) → ℕ → Bool
-sameIn expected received k = eqb (readPoint (received k)) (said expected k)
+-- the value k places behind place `at` is what codeword k has at place i
+unfoldable pub sameAt : List ℕ → ℕ → List ℕ → ℕ → ℕ → Bool
+sameAt words i inbox at k = eqb (getD inbox (at + k) 0) (across words i k)
 
--- to agree is to find what the other would have sent, had it the same record
-module _ (n m own : ℕ) (bytes : List ℕ) (j : ℕ) (received : ℕ → ℕ) where
-  second-expected : (k : ℕ) → k < blocks n m → said (exchange n m j bytes own) (blocks n m + k) ≡ point n bytes own k
-  second-expected k l = second-value n m j bytes own k ∙ said-values n m bytes own k l
+-- the flag of column i + 1, by the codewords of the record
+unfoldable pub agreesAcross : ℕ → ℕ → ℕ → List ℕ → List ℕ → ℕ → Bool
+agreesAcross n b own words inbox i =
+    ltb i n && (eqb (i + 1) own || (all (sameAt words i inbox (i * (2 * b))) b && all (sameAt words (own - 1) inbox (i * (2 * b) + b)) b))
 
-  expected-came : T (agreesWith n m own bytes j received) → (k : ℕ) → k < 2 * blocks n m → Dec (k < blocks n m)
-      → readPoint (received k) ≡ said (exchange n m j bytes own) k
-  expected-came h k l (yes s) = first-agrees n m own bytes j received h k s ∙ sym (first-value n m j bytes own k s)
-  expected-came h k l (no s) =
-      let i = k - blocks n m in
-      let e : blocks n m + i ≡ k = omega arith in
-      let s′ : i < blocks n m = omega arith in
-      rw e at (second-agrees n m own bytes j received h i s′ ∙ sym (second-expected i s′))
+module _ (n b own : ℕ) (words inbox : List ℕ) (i : ℕ) where
+  pub agrees-past : n ≤ i → false ≡ agreesAcross n b own words inbox i
+  unfolding agreesAcross
+  agrees-past h = simp (le-ltb i n h)
 
-  pub agrees-same : agreesWith n m own bytes j received ≡ all (sameIn (exchange n m j bytes own) received) (2 * blocks n m)
-  unfolding sameIn
-  agrees-same = T-ext (agreesWith n m own bytes j received) (all (sameIn (exchange n m j bytes own) received) (2 * blocks n m))
-      (λ h. each-all (sameIn (exchange n m j bytes own) received) (2 * blocks n m) (λ k l.
-      eq→eqb (readPoint (received k)) (said (exchange n m j bytes own) k) (expected-came h k l (decLt k (blocks n m)))))
-      (λ h. both-agree n m own bytes j received
-      (λ k l. came h k (omega arith) ∙ first-value n m j bytes own k l)
-      (λ k l. came h (blocks n m + k) (omega arith) ∙ second-expected k l))
+  module _ (l : i < n) where
+    pub agrees-itself : i + 1 ≡ own → true ≡ agreesAcross n b own words inbox i
+    unfolding agreesAcross
+    agrees-itself e = simp (lt-ltb i n l, eq-eqb (i + 1) own e)
+
+    -- with another column: `at` is where its message begins
+    module _ (other : i + 1 ≡ own → ⊥) (at : ℕ) (e : at ≡ i * (2 * b) + 0) where
+      both-halves : agreesAcross n b own words inbox i ≡ all (sameAt words i inbox at) b && all (sameAt words (own - 1) inbox (at + b)) b
+      unfolding agreesAcross
+      both-halves =
+          let f : at ≡ i * (2 * b) = omega arith in
+          rw (lt-ltb i n l, ne-eqb (i + 1) own other, f) refl
+
+      pub agrees-not : all (sameAt words i inbox at) b ≡ false → false ≡ agreesAcross n b own words inbox i
+      agrees-not h = sym (both-halves ∙ rw h refl)
+
+      pub agrees-other : all (sameAt words i inbox at) b ≡ true → (r : Bool) → r ≡ all (sameAt words (own - 1) inbox (at + b)) b → r ≡ agreesAcross n b own words inbox i
+      agrees-other h r f = f ∙ sym (both-halves ∙ rw h refl)
+
+-- each passes both tests
+all-both : (P Q : ℕ → Bool) (n : ℕ) → all P n && all Q n ≡ all (both P Q) n
+unfolding both
+all-both P Q n = T-ext (all P n && all Q n) (all (both P Q) n)
+    (λ h. each-all (both P Q) n (λ k l.
+    and-both (P k) (Q k) (all-each P n (and-left (all P n) (all Q n) h) k l) (all-each Q n (and-right (all P n) (all Q n) h) k l)))
+    (λ h. and-both (all P n) (all Q n)
+    (each-all P n (λ k l. and-left (P k) (Q k) (all-each (both P Q) n h k l))) (each-all Q n (λ k l. and-right (P k) (Q k) (all-each (both P Q) n h k l))))
+
+-- what the column hears from column i + 1
+abbrev hears : ℕ → ℕ → ℕ → List ℕ → List ℕ → ℕ → ℕ → ℕ
+hears n m own bytes inbox i = heard own (exchange n m own bytes own) (2 * blocks n m) inbox (i + 1)
+
+module _ (n m own : ℕ) (bytes inbox : List ℕ) (i : ℕ) where
+  -- with itself it agrees
+  with-itself : i + 1 ≡ own → T (agreesWith n m own bytes (i + 1) (hears n m own bytes inbox i))
+  with-itself e =
+      both-agree n m own bytes (i + 1) (hears n m own bytes inbox i)
+      (λ k h. is-own k k (first-value n m own bytes own k h) ∙ ap (λ (x : ℕ). point n bytes x k) (sym e))
+      (λ k h. is-own (blocks n m + k) k (second-value n m own bytes own k ∙ said-values n m bytes own k h))
     where
-      came : T (all (sameIn (exchange n m j bytes own) received) (2 * blocks n m)) → (k : ℕ) → k < 2 * blocks n m → readPoint (received k) ≡ said (exchange n m j bytes own) k
-      came h k l = eqb→eq (readPoint (received k)) (said (exchange n m j bytes own) k) (all-each (sameIn (exchange n m j bytes own) received) (2 * blocks n m) h k l)
+      is-own : (q k : ℕ) → said (exchange n m own bytes own) q ≡ point n bytes own k → readPoint (hears n m own bytes inbox i q) ≡ point n bytes own k
+      is-own q k h =
+          ap readPoint (heard-own own (exchange n m own bytes own) (2 * blocks n m) inbox (i + 1) q e ∙ h) ∙ point-is (point n bytes own k) (point-lt n bytes own k)
 
--- the flag of column i + 1, by messages that lie in 64 places
-pub agreement-is : (n m own : ℕ) (bytes inbox : List ℕ) (i b : ℕ) (me expected : List ℕ) → refusal n m own ≡ 0 → i < n → b ≡ blocks n m
-    → me ≡ laid 64 (exchange n m own bytes own) → expected ≡ laid 64 (exchange n m (i + 1) bytes own)
-    → all (sameIn expected (heard own me (2 * b) inbox (i + 1))) (2 * b) ≡ agreementAt n m own bytes inbox i
-unfolding agreementAt sameIn
-agreement-is n m own bytes inbox i b me expected r l e f g =
-    rw (e, f, g, lt-ltb i n l) (all-same (sameIn (laid 64 theirs) (heard own (laid 64 mine) w inbox (i + 1))) (sameIn theirs (heard own mine w inbox (i + 1))) w same
-    ∙ sym (agrees-same n m own bytes (i + 1) (heard own mine w inbox (i + 1))))
+  -- value q from another column, held to what codeword k has at place x
+  held-to : refusal n m own ≡ 0 → n * (2 * blocks n m) ≡ length inbox → i < n → (i + 1 ≡ own → ⊥) → (x q k : ℕ) → x < 32 → k < blocks n m → q < 2 * blocks n m
+      → eqb (getD inbox (i * (2 * blocks n m) + q) 0) (across (codewords n m bytes) x k) ≡ eqb (readPoint (hears n m own bytes inbox i q)) (point n bytes (x + 1) k)
+  held-to r long l other x q k h g u =
+      let row : i + 1 - 1 ≡ i = omega arith in
+      let place : getD inbox (i * (2 * blocks n m) + q) 0 ≡ hears n m own bytes inbox i q =
+      getD-within inbox (i * (2 * blocks n m) + q) 0 blank (omega (arith, long, row-fits (2 * blocks n m) i n l))
+      ∙ sym (heard-other own (exchange n m own bytes own) (2 * blocks n m) inbox (i + 1) q other ∙ ap (λ (j : ℕ). getD inbox (j * (2 * blocks n m) + q) blank) row) in
+      let value : across (codewords n m bytes) x k ≡ point n bytes (x + 1) k =
+      across-is n m bytes x k h (omega (arith, few-blocks n m own r)) ∙ said-values n m bytes (x + 1) k g in
+      ap₂ {C = Bool} (λ v p. eqb v p) place value ∙ sym (same-point (hears n m own bytes inbox i q) (point n bytes (x + 1) k) (point-lt n bytes (x + 1) k))
+
+agreement-is : (n m own : ℕ) (bytes inbox : List ℕ) (i b : ℕ) (words : List ℕ) → refusal n m own ≡ 0 → n * (2 * blocks n m) ≡ length inbox → b ≡ blocks n m
+    → words ≡ codewords n m bytes → agreesAcross n b own words inbox i ≡ agreementAt n m own bytes inbox i
+unfolding agreesAcross agreementAt agreesWith agreesIn both sameAt
+agreement-is n m own bytes inbox i b words r long e f = rw (e, f) (go (decLt i n))
   where
     w : ℕ
     w = 2 * blocks n m
 
-    mine : List ℕ
-    mine = exchange n m own bytes own
+    P : ℕ → Bool
+    P = sameAt (codewords n m bytes) i inbox (i * w)
 
-    theirs : List ℕ
-    theirs = exchange n m (i + 1) bytes own
+    Q : ℕ → Bool
+    Q = sameAt (codewords n m bytes) (own - 1) inbox (i * w + blocks n m)
 
-    fits : (x : ℕ) → length (exchange n m x bytes own) ≤ 64
-    fits x = omega (arith, length-exchange n m x bytes own, few-blocks n m own r)
+    each : i < n → (i + 1 ≡ own → ⊥) → (k : ℕ) → k < blocks n m → both P Q k ≡ agreesIn n m own bytes (i + 1) (hears n m own bytes inbox i) k
+    each l other k h =
+        let a = accepted n m own r in
+        let small : own - 1 < 32 = omega (arith, a .number-high, a .range .columns-high) in
+        let place : own - 1 + 1 ≡ own = omega (arith, a .number-low) in
+        let next : i * w + blocks n m + k ≡ i * w + (blocks n m + k) = omega arith in
+        ap₂ {C = Bool} (λ x y. x && y) (held-to n m own bytes inbox i r long l other i k k (omega (arith, a .range .columns-high)) h (omega arith))
+        (ap (λ (p : ℕ). eqb (getD inbox p 0) (across (codewords n m bytes) (own - 1) k)) next
+        ∙ held-to n m own bytes inbox i r long l other (own - 1) (blocks n m + k) k small h (omega arith)
+        ∙ ap (λ (x : ℕ). eqb (readPoint (hears n m own bytes inbox i (blocks n m + k))) (point n bytes x k)) place)
 
-    same : (k : ℕ) → k < w → sameIn (laid 64 theirs) (heard own (laid 64 mine) w inbox (i + 1)) k ≡ sameIn theirs (heard own mine w inbox (i + 1)) k
-    same k _ = rw (heard-same own (laid 64 mine) w inbox mine (i + 1) k (said-laid 64 mine k (fits own)), said-laid 64 theirs k (fits (i + 1)))
+    by-number : i < n → (t : Bool) → eqb (i + 1) own ≡ t
+        → t || (all P (blocks n m) && all Q (blocks n m)) ≡ agreesWith n m own bytes (i + 1) (hears n m own bytes inbox i)
+    by-number l true q = sym (is-true (agreesWith n m own bytes (i + 1) (hears n m own bytes inbox i)) (with-itself n m own bytes inbox i (eqb-true (i + 1) own q)))
+    by-number l false q =
+        all-both P Q (blocks n m)
+        ∙ all-same (both P Q) (agreesIn n m own bytes (i + 1) (hears n m own bytes inbox i)) (blocks n m) (each l (eqb-false (i + 1) own q))
+
+    go : Dec (i < n) → agreesAcross n (blocks n m) own (codewords n m bytes) inbox i ≡ agreementAt n m own bytes inbox i
+    go (yes l) = rw (lt-ltb i n l) (by-number l (eqb (i + 1) own) refl)
+    go (no l) = rw (le-ltb i n (omega arith)) refl
+
+pub agreements-are : (n m own : ℕ) (bytes inbox : List ℕ) (b : ℕ) (words : List ℕ) → refusal n m own ≡ 0 → n * (2 * blocks n m) ≡ length inbox → b ≡ blocks n m
+    → words ≡ codewords n m bytes → listOf (agreesAcross n b own words inbox) 31 ≡ agreements n m own bytes inbox
+unfolding agreements
+agreements-are n m own bytes inbox b words r long e f =
+    listOf-same (agreesAcross n b own words inbox) (agreementAt n m own bytes inbox) 31 (λ i _. agreement-is n m own bytes inbox i b words r long e f)
 
 -- THE CALLS ON SLICES
 

@@ -1,14 +1,13 @@
 // Round 1: what a column sends each other one of its record, and which columns it agrees with.
 ghost use mathlib.Core.Path.{_≡_};
-ghost use Prim.Native.Nat.{_+_, _*_, _≤_};
+ghost use Prim.Native.Nat.{_+_, _-_, _*_, _≤_, _<_};
 ghost use mathlib.Core.List.{_++_};
 ghost use lib.ListN.{length, drop};
 ghost use Rattle.lists.specs.Lists.{all, listOf};
 ghost use Rattle.sizes.specs.Sizes.{blocks, refusal as refusalOfSizes};
-ghost use Rattle.messages.specs.Messages.{said, laid, unlessRefused, heard};
-ghost use Rattle.codeword.specs.Codeword.{values};
-ghost use Rattle.dispersal.specs.Dispersal.{exchange as exchangeOf, exchanges, agreementAt, agreements as agreementsOf, exchangeRefusal, agreed};
-ghost use Rattle.dispersal.specs.Laws.{joined, sameIn};
+ghost use Rattle.messages.specs.Messages.{unlessRefused};
+ghost use Rattle.dispersal.specs.Dispersal.{exchanges, agreements as agreementsOf, exchangeRefusal, agreed};
+ghost use Rattle.dispersal.specs.Laws.{paired, sameAt, agreesAcross};
 
 // What a call on the messages of the exchange answers: its refusal, 0 for none, and a flag for each column, all false where it refuses.
 pub struct Agreed {
@@ -16,37 +15,15 @@ pub struct Agreed {
     pub flags: [bool; 31],
 }
 
-// Value k of a message of b first and b second values.
-fn message_value(b: u16, first: &[u16], second: &[u16], k: u16) -> u16
-    ensures { λ r. ⌜ r ≡ joined b (now (first .entry)) (now (second .entry)) k ⌝ }
+// Writes the message to the column `to` to the front of a part of the outgoing slice: the values at the own point, then those at the
+// receiver's. `words` are the codewords of the record.
+fn send_one(b: u16, words: &[u16], own: u8, to: u8, part: &mut [u16])
+    requires { ⌜ (1 ≤ own) × (own ≤ 32) × (1 ≤ to) × (to ≤ 32) × (32 * b ≤ length (now words)) × (2 * b ≤ length (now part)) ⌝ }
+    ensures { λ _. ⌜ now (part .exit) ≡ listOf (paired b (now (words .entry)) own to) (2 * b) ++ drop (2 * b) (now (part .entry)) ⌝ }
 {
-    if k < b {
-        return messages::value(first, k as usize);
-    }
-    messages::value(second, (k - b) as usize)
-}
-
-// A message of b first and b second values.
-fn message(b: u16, first: [u16; 32], second: [u16; 32]) -> [u16; 64]
-    ensures { λ r. ⌜ r ≡ listOf (joined b first second) 64 ⌝ }
-{
-    let mut all = [65535u16; 64];
-    for k in 0..64u16 {
-        let at = k as usize;
-        all[at] = message_value(b, &first, &second, k);
-    }
-    all
-}
-
-// Writes the message to column j + 1 to the front of a part of the outgoing slice.
-fn send_one(n: u8, m: u8, own: u8, bytes: [u8; 32], mine: [u16; 32], j: u8, part: &mut [u16])
-    requires { ⌜ (refusalOfSizes n m own ≡ 0) × (mine ≡ laid 32 (values n m bytes own)) × (2 * blocks n m ≤ length (now part)) ⌝ }
-    ensures { λ _. ⌜ now (part .exit) ≡ listOf (said (exchangeOf n m own bytes (j + 1))) (2 * blocks n m) ++ drop (2 * blocks n m) (now (part .entry)) ⌝ }
-{
-    let b = sizes::blocks(n, m) as u16;
-    let theirs = codeword::values(n, m, bytes, j as u16 + 1);
-    let all = message(b, mine, theirs);
-    messages::write(2 * b, &all, part);
+    let second = b as usize;
+    codeword::write(b, words, own - 1, part);
+    codeword::write(b, words, to - 1, &mut part[second..]);
 }
 
 // Writes the message to each of n columns, each through the part of the slice that starts at its place.
@@ -54,11 +31,11 @@ fn send_all(n: u8, m: u8, own: u8, bytes: [u8; 32], out: &mut [u16])
     requires { ⌜ (refusalOfSizes n m own ≡ 0) × (n * (2 * blocks n m) ≡ length (now out)) ⌝ }
     ensures { λ _. ⌜ now (out .exit) ≡ exchanges n m own bytes ⌝ }
 {
-    let w = 2 * (sizes::blocks(n, m) as u16);
-    let mine = codeword::values(n, m, bytes, own as u16);
+    let b = sizes::blocks(n, m) as u16;
+    let words = codeword::codewords(n, m, bytes);
     for j in 0..n {
-        let at = messages::place(j, w, 0);
-        send_one(n, m, own, bytes, mine, j, &mut out[at..]);
+        let at = messages::place(j, 2 * b, 0);
+        send_one(b, &words, own, j + 1, &mut out[at..]);
     }
 }
 
@@ -88,61 +65,54 @@ pub fn send(n: u8, m: u8, own: u8, bytes: [u8; 32], out: &mut [u16]) -> u8
     0
 }
 
-// Whether value k from column j is the expected one.
-fn same_value(own: u8, me: &[u16], w: u16, inbox: &[u16], j: u8, expected: &[u16], k: u16) -> bool
-    ensures { λ r. ⌜ r ≡ sameIn (now (expected .entry)) (heard own (now (me .entry)) w (now (inbox .entry)) j) k ⌝ }
+// Whether the b values from place `at` on are what the codewords have at place i.
+fn same_values(b: usize, words: &[u16], i: usize, inbox: &[u16], at: usize) -> bool
+    requires { ⌜ (i < 32) × (32 * b ≤ length (now words)) × (at + b ≤ length (now inbox)) ⌝ }
+    ensures { λ r. ⌜ r ≡ all (sameAt (now (words .entry)) i (now (inbox .entry)) at) b ⌝ }
 {
-    messages::read_point(messages::heard(own, me, w, inbox, j, k))
-        == messages::value(expected, k as usize)
-}
-
-// Whether column j's message, of w values, is the expected one.
-fn same_message(own: u8, me: &[u16], w: u16, inbox: &[u16], j: u8, expected: &[u16]) -> bool
-    ensures { λ r. ⌜ r ≡ all (sameIn (now (expected .entry)) (heard own (now (me .entry)) w (now (inbox .entry)) j)) w ⌝ }
-{
-    for k in 0..w {
-        if !same_value(own, me, w, inbox, j, expected, k) {
+    for k in 0..b {
+        if inbox[at + k] != words[32 * k + i] {
             return false;
         }
     }
     true
 }
 
-// Whether the column agrees with column i + 1: that one sent what it would have sent, had it the same record. `mine` are the values at the
-// own point, `me` is what the column would send itself.
-fn agreement_at(
-    n: u8,
-    m: u8,
-    own: u8,
-    bytes: [u8; 32],
-    mine: [u16; 32],
-    me: &[u16],
-    inbox: &[u16],
-    i: u8,
-) -> bool
-    requires { ⌜ (refusalOfSizes n m own ≡ 0) × (mine ≡ laid 32 (values n m bytes own)) × (now me ≡ laid 64 (exchangeOf n m own bytes own)) × (i ≤ 30) ⌝ }
-    ensures { λ r. ⌜ r ≡ agreementAt n m own bytes (now (inbox .entry)) i ⌝ }
+// Whether the column agrees with column i + 1: that one sent what it would have sent, had it the same record. With itself it always does.
+fn agreement_at(n: u8, b: u16, own: u8, words: &[u16], inbox: &[u16], i: u8) -> bool
+    requires { ⌜ (n ≤ 31) × (b ≤ 32) × (1 ≤ own) × (own ≤ 31) × (32 * b ≤ length (now words)) × (n * (2 * b) ≡ length (now inbox)) × (i ≤ 30) ⌝ }
+    ensures { λ r. ⌜ r ≡ agreesAcross n b own (now (words .entry)) (now (inbox .entry)) i ⌝ }
 {
     if n <= i {
         return false;
     }
-    let b = sizes::blocks(n, m) as u16;
-    let theirs = codeword::values(n, m, bytes, i as u16 + 1);
-    let expected = message(b, theirs, mine);
-    same_message(own, me, 2 * b, inbox, i + 1, &expected)
+    if i + 1 == own {
+        return true;
+    }
+    let at = messages::place(i, 2 * b, 0);
+    if !same_values(b as usize, words, i as usize, inbox, at) {
+        return false;
+    }
+    same_values(
+        b as usize,
+        words,
+        (own - 1) as usize,
+        inbox,
+        at + b as usize,
+    )
 }
 
 // The flags of all columns.
 fn flags(n: u8, m: u8, own: u8, bytes: [u8; 32], inbox: &[u16]) -> [bool; 31]
-    requires { ⌜ refusalOfSizes n m own ≡ 0 ⌝ }
+    requires { ⌜ (refusalOfSizes n m own ≡ 0) × (n * (2 * blocks n m) ≡ length (now inbox)) ⌝ }
     ensures { λ r. ⌜ r ≡ agreementsOf n m own bytes (now (inbox .entry)) ⌝ }
 {
-    let mine = codeword::values(n, m, bytes, own as u16);
-    let me = message(sizes::blocks(n, m) as u16, mine, mine);
+    let b = sizes::blocks(n, m) as u16;
+    let words = codeword::codewords(n, m, bytes);
     let mut all = [false; 31];
     for i in 0..31u8 {
         let at = i as usize;
-        all[at] = agreement_at(n, m, own, bytes, mine, &me, inbox, i);
+        all[at] = agreement_at(n, b, own, &words, inbox, i);
     }
     all
 }

@@ -52,6 +52,14 @@ same-bit v b h = go (decLt v 2)
     go (yes l) = simp (lt-ltb v 2 l)
     go (no l) = simp (le-ltb v 2 (omega arith), ne-eqb v b (omega arith), ne-eqb blank b (omega arith))
 
+pub same-point : (v p : ℕ) → p < 257 → eqb (readPoint v) p ≡ eqb v p
+unfolding readPoint
+same-point v p h = go (decLt v 257)
+  where
+    go : Dec (v < 257) → eqb (cond (ltb v 257) v blank) p ≡ eqb v p
+    go (yes l) = simp (lt-ltb v 257 l)
+    go (no l) = simp (le-ltb v 257 (omega arith), ne-eqb v p (omega arith), ne-eqb blank p (omega arith))
+
 -- HOW MESSAGES LIE
 
 -- column i + 1's value lies at place i

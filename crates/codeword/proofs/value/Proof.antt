@@ -1,22 +1,30 @@
 -- `value` meets its contract.
-use mathlib.Core.Path.{sym, _∙_}
+use mathlib.Core.Path.{ap, _∙_}
+use native.Mathlib.Nat.{mul-le-mul}
 use native.Mathlib.Omega.{arith}
+use borrow.Author.Tests.{lt-ltb, le-ltb}
 use borrow.Author.Needs.{needs}
-use Rattle.codeword.specs.Apart.{said-values, said-past}
+use Rattle.field.specs.declared.Field.{Field}
+use Rattle.codeword.specs.Words.{valueIn}
 use Rattle.codeword.proofs.value.Statement.{statement}
 use Rattle.codeword.proofs.value.Tie as tie
 
-blocks-requires : tie.Need-blocks-requires
-blocks-requires c κs = search needs
-
-point-requires : tie.Need-point-requires
-point-requires c κs = search needs
-
 returns : tie.Need-returns
-returns c = c .point .ensures ∙ sym (said-values _ _ _ _ _ (omega (arith, c .before .before .blocks2 .ensures, c .before .if1 .taken)))
+unfolding valueIn
+returns c = simp (le-ltb _ _ (c .if1 .taken))
+
+mul-value : tie.Need-mul-value
+mul-value c = record { fits = omega (arith, mul-le-mul {n₁ = c .before .before .args .k} {m₁ = c .before .before .args .size} {n₂ = 255} {m₂ = 255} (omega arith) (omega arith)) }
+
+cast-value : tie.Need-cast-value
+cast-value c = search needs
+
+value-requires : tie.Need-value-requires
+value-requires c κs = search needs
 
 returns-2 : tie.Need-returns-2
-returns-2 c = sym (said-past _ _ _ _ _ (omega (arith, c .before .blocks2 .ensures, c .if1 .left)))
+unfolding valueIn
+returns-2 c = ap (λ (v : Field). v .0) (c .value .ensures) ∙ simp (lt-ltb _ _ (c .before .if1 .left))
 
 pub value-spec : {M : Type 1} → statement M
-value-spec = tie.close (tie.spec blocks-requires point-requires returns returns-2)
+value-spec = tie.close (tie.spec returns mul-value cast-value value-requires returns-2)

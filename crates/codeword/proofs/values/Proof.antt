@@ -1,18 +1,30 @@
 -- `values` meets its contract.
-use Prim.Native.Nat.{_-_}
+use mathlib.Core.Path.{ap, _∙_}
+use Prim.Native.Nat.{ℕ, _+_, _-_}
 use native.Mathlib.Omega.{arith}
 use borrow.Author.Needs.{needs}
 use Rattle.lists.specs.Loops.{Filled, filled-none, filled-more, filled-done}
+use Rattle.sizes.specs.Laws.{degree-le}
 use Rattle.messages.specs.Messages.{said, laid}
 use Rattle.codeword.specs.Codeword.{values}
+use Rattle.codeword.specs.Words.{value-in}
 use Rattle.codeword.proofs.values.Statement.{statement}
 use Rattle.codeword.proofs.values.Tie as tie
 
 abbrev Inv-loop : tie.InvT-loop
-Inv-loop n m x bytes all₀ k₀ all k = Filled (said (values n m bytes x)) 32 all₀ all k
+Inv-loop n m x bytes b size all₀ k₀ all k = Filled (said (values n m bytes x)) 32 all₀ all k
 
 abbrev μ-loop : tie.MeasureT-loop
-μ-loop n m x bytes all₀ k₀ all k = 32 - k
+μ-loop n m x bytes b size all₀ k₀ all k = 32 - k
+
+blocks-requires : tie.Need-blocks-requires Inv-loop μ-loop
+blocks-requires c κs = tt
+
+degree-requires : tie.Need-degree-requires Inv-loop μ-loop
+degree-requires c κs = tt
+
+add-size : tie.Need-add-size Inv-loop μ-loop
+add-size c = omega (arith, c .degree .ensures, degree-le (c .before .before .args .n))
 
 loop-holds : tie.Need-loop-holds Inv-loop μ-loop
 loop-holds c = filled-none _ _ _ (omega arith)
@@ -24,7 +36,7 @@ slice-aggregate-value : tie.Need-slice-aggregate-value Inv-loop μ-loop
 slice-aggregate-value c = search needs
 
 value-requires : tie.Need-value-requires Inv-loop μ-loop
-value-requires c κs = tt
+value-requires c κs = omega (arith, c .before .before .before .degree .ensures, degree-le (c .before .before .before .before .before .args .n))
 
 mul-all : tie.Need-mul-all Inv-loop μ-loop
 mul-all c = omega arith
@@ -39,7 +51,7 @@ loop-less : tie.Need-loop-less Inv-loop μ-loop
 loop-less c = omega arith
 
 loop-again : tie.Need-loop-again Inv-loop μ-loop
-loop-again c = filled-more _ _ _ _ _ _ (c .before .before .before .loop .inv) (omega arith) (c .value .ensures)
+loop-again c = filled-more _ _ _ _ _ _ (c .before .before .before .loop .inv) (omega arith) (c .value .ensures ∙ value-in _ _ _ _ _ _ _ (c .before .before .before .before .before .blocks2 .ensures) (ap (λ (d : ℕ). d + 1) (c .before .before .before .before .degree .ensures)))
 
 returns : tie.Need-returns Inv-loop μ-loop
 unfolding laid
@@ -51,6 +63,9 @@ values-spec =
     (tie.spec
     Inv-loop
     μ-loop
+    blocks-requires
+    degree-requires
+    add-size
     loop-holds
     cast-at
     slice-aggregate-value

@@ -1,62 +1,72 @@
 -- `exchange::agreement_at` meets its contract.
-use mathlib.Core.Path.{_∙_}
+use mathlib.Core.Path.{sym, _∙_}
+use Prim.Native.Nat.{_*_}
 use native.Mathlib.Omega.{arith}
-use borrow.Author.Tests.{le-ltb}
+use borrow.Author.Tests.{not-true, not-false}
 use borrow.Author.Needs.{needs}
-use Rattle.sizes.specs.Laws.{blocks-le, few-blocks}
-use Rattle.dispersal.specs.Dispersal.{agreementAt}
-use Rattle.dispersal.specs.Laws.{joined-exchange, agreement-is}
+use Rattle.lists.specs.Rows.{row-fits}
+use Rattle.dispersal.specs.Laws.{agrees-past, agrees-itself, agrees-not, agrees-other}
 use Rattle.dispersal.proofs.exchange.agreement_at.Statement.{statement}
 use Rattle.dispersal.proofs.exchange.agreement_at.Tie as tie
 
 returns : tie.Need-returns
-unfolding agreementAt
-returns c = simp (le-ltb _ _ (c .if1 .taken))
+returns c = agrees-past _ _ _ _ _ _ (c .if1 .taken)
 
-blocks-requires : tie.Need-blocks-requires
-blocks-requires c κs = search needs
-
-cast-b : tie.Need-cast-b
-cast-b c = record { fits = omega (arith, c .blocks2 .ensures, blocks-le (c .before .before .before .before .args .n) (c .before .before .before .before .args .m)) }
-
-add-values : tie.Need-add-values
-add-values c = search needs
-
-values-requires : tie.Need-values-requires
-values-requires c κs = search needs
-
-message-requires : tie.Need-message-requires
-message-requires c κs = search needs
-
-mul-same-message : tie.Need-mul-same-message
-mul-same-message c = record { fits = omega (arith, c .before .before .blocks2 .ensures, blocks-le (c .before .before .before .before .before .before .args .n) (c .before .before .before .before .before .before .args .m)) }
-
-add-same-message : tie.Need-add-same-message
-add-same-message c = search needs
-
-slice-aggregate-same-message : tie.Need-slice-aggregate-same-message
-slice-aggregate-same-message c = search needs
-
-same-message-requires : tie.Need-same-message-requires
-same-message-requires c κs = search needs
+add-if2 : tie.Need-add-if2
+add-if2 c = search needs
 
 returns-2 : tie.Need-returns-2
-returns-2 c = let a = c .before .before .before .before .before .before .before .before .args in
-    c .same-message .ensures ∙ agreement-is (a .n) (a .m) (a .own) (a .bytes) (a .inbox .now) (a .i) _ _ _ (c .before .before .before .before .before .before .before .before .pre .0) (omega arith) (c .before .before .before .before .blocks2 .ensures) (c .before .before .before .before .before .before .before .before .pre .2)
-    (c .before .before .message .ensures ∙ joined-exchange (a .n) (a .m) (a .bytes) (few-blocks (a .n) (a .m) (a .own) (c .before .before .before .before .before .before .before .before .pre .0)) _ _ _ _ _ (c .before .before .before .before .blocks2 .ensures) (c .before .before .before .values .ensures) (c .before .before .before .before .before .before .before .before .pre .1))
+returns-2 c = agrees-itself _ _ _ _ _ _ (c .before .if1 .left) (c .if2 .taken)
+
+mul-place : tie.Need-mul-place
+mul-place c = search needs
+
+place-requires : tie.Need-place-requires
+place-requires c κs = search needs
+
+same-values-requires : tie.Need-same-values-requires
+same-values-requires c κs =
+    let s = c .before .before .before .before .before in
+    (omega arith, s .pre .4, omega (arith, c .place .ensures, s .pre .5, row-fits (2 * s .args .b) (s .args .i) (s .args .n) (omega arith)))
+
+returns-3 : tie.Need-returns-3
+returns-3 c =
+    agrees-not _ _ _ _ _ _ (omega arith) (c .before .before .before .if2 .left) _ (c .before .before .place .ensures) (sym (c .before .same-values .ensures) ∙ not-true _ (c .if3 .taken))
+
+sub-same-values : tie.Need-sub-same-values
+sub-same-values c = search needs
+
+cast-same-values : tie.Need-cast-same-values
+cast-same-values c = search needs
+
+add-same-values : tie.Need-add-same-values
+add-same-values c =
+    let s = c .before .before .before .before .before .before .before in
+    record { fits = omega (arith, c .before .before .place .ensures, s .pre .5, row-fits (2 * s .args .b) (s .args .i) (s .args .n) (omega arith)) }
+
+same-values-requires-2 : tie.Need-same-values-requires-2
+same-values-requires-2 c κs =
+    let s = c .before .before .before .before .before .before .before in
+    (omega arith, s .pre .4, omega (arith, c .before .before .place .ensures, s .pre .5, row-fits (2 * s .args .b) (s .args .i) (s .args .n) (omega arith)))
+
+returns-4 : tie.Need-returns-4
+returns-4 c =
+    agrees-other _ _ _ _ _ _ (omega arith) (c .before .before .before .before .if2 .left) _ (c .before .before .before .place .ensures)
+    (sym (c .before .before .same-values .ensures) ∙ not-false _ (c .before .if3 .left)) _ (c .same-values2 .ensures)
 
 pub agreement-at-spec : {M : Type 1} → statement M
 agreement-at-spec =
     tie.close
     (tie.spec
     returns
-    blocks-requires
-    cast-b
-    add-values
-    values-requires
-    message-requires
-    mul-same-message
-    add-same-message
-    slice-aggregate-same-message
-    same-message-requires
-    returns-2)
+    add-if2
+    returns-2
+    mul-place
+    place-requires
+    same-values-requires
+    returns-3
+    sub-same-values
+    cast-same-values
+    add-same-values
+    same-values-requires-2
+    returns-4)

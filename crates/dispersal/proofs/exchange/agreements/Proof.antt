@@ -13,7 +13,7 @@ returns : tie.Need-returns
 returns c = agreed-refused _ _ _ _ _ _ (c .before .refusal .ensures) (c .if1 .taken)
 
 flags-requires : tie.Need-flags-requires
-flags-requires c κs = messages-accepted _ _ _ _ (sym (c .before .refusal .ensures) ∙ c .if1 .left) .0
+flags-requires c κs = let h = messages-accepted _ _ _ _ (sym (c .before .refusal .ensures) ∙ c .if1 .left) in (h .0, sym (h .1))
 
 returns-2 : tie.Need-returns-2
 returns-2 c = agreed-done _ _ _ _ _ _ (c .before .before .refusal .ensures) _ (c .before .if1 .left) (c .flags .ensures)

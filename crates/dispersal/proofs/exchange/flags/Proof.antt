@@ -4,29 +4,26 @@ use Prim.Native.Nat.{_-_}
 use native.Mathlib.Omega.{arith}
 use borrow.Author.Needs.{needs}
 use Rattle.lists.specs.Loops.{Filled, filled-none, filled-more, filled-done}
-use Rattle.sizes.specs.Laws.{blocks-le, few-blocks}
-use Rattle.dispersal.specs.Dispersal.{agreementAt, agreements}
-use Rattle.dispersal.specs.Laws.{joined-exchange}
+use Rattle.sizes.specs.Laws.{blocks-le, accepted, few-blocks}
+use Rattle.codeword.specs.Words.{length-codewords}
+use Rattle.dispersal.specs.Laws.{agreesAcross, agreements-are}
 use Rattle.dispersal.proofs.exchange.flags.Statement.{statement}
 use Rattle.dispersal.proofs.exchange.flags.Tie as tie
 
 abbrev Inv-loop : tie.InvT-loop
-Inv-loop n m own bytes inbox mine me all₀ i₀ all i = Filled (agreementAt n m own bytes inbox) 31 all₀ all i
+Inv-loop n m own inbox b words all₀ i₀ all i = Filled (agreesAcross n b own words inbox) 31 all₀ all i
 
 abbrev μ-loop : tie.MeasureT-loop
-μ-loop n m own bytes inbox mine me all₀ i₀ all i = 31 - i
-
-values-requires : tie.Need-values-requires Inv-loop μ-loop
-values-requires c κs = tt
+μ-loop n m own inbox b words all₀ i₀ all i = 31 - i
 
 blocks-requires : tie.Need-blocks-requires Inv-loop μ-loop
 blocks-requires c κs = tt
 
-cast-message : tie.Need-cast-message Inv-loop μ-loop
-cast-message c = record { fits = omega (arith, c .blocks2 .ensures, blocks-le (c .before .before .before .args .n) (c .before .before .before .args .m)) }
+cast-b : tie.Need-cast-b Inv-loop μ-loop
+cast-b c = record { fits = omega (arith, c .blocks2 .ensures, blocks-le (c .before .before .args .n) (c .before .before .args .m)) }
 
-message-requires : tie.Need-message-requires Inv-loop μ-loop
-message-requires c κs = tt
+codewords-requires : tie.Need-codewords-requires Inv-loop μ-loop
+codewords-requires c κs = tt
 
 loop-holds : tie.Need-loop-holds Inv-loop μ-loop
 loop-holds c = filled-none _ _ _ (omega arith)
@@ -38,8 +35,19 @@ slice-aggregate-agreement-at : tie.Need-slice-aggregate-agreement-at Inv-loop μ
 slice-aggregate-agreement-at c = search needs
 
 agreement-at-requires : tie.Need-agreement-at-requires Inv-loop μ-loop
-agreement-at-requires c κs = let a = c .before .before .before .before .before .before .before .args in
-    (c .before .before .before .before .before .before .before .pre, c .before .before .before .before .before .values .ensures, c .before .before .before .message .ensures ∙ joined-exchange (a .n) (a .m) (a .bytes) (few-blocks (a .n) (a .m) (a .own) (c .before .before .before .before .before .before .before .pre)) _ _ _ _ _ (c .before .before .before .before .blocks2 .ensures) (c .before .before .before .before .before .values .ensures) (c .before .before .before .before .before .values .ensures), omega arith)
+agreement-at-requires c κs =
+    let s = c .before .before .before .before .before .before in
+    let a = accepted (s .args .n) (s .args .m) (s .args .own) (s .pre .0) in
+    let few = few-blocks (s .args .n) (s .args .m) (s .args .own) (s .pre .0) in
+    let b = c .before .before .before .before .blocks2 .ensures in (
+      a .range .columns-high,
+      omega (arith, few, b),
+      a .number-low,
+      omega (arith, a .number-high, a .range .columns-high),
+      rw (c .before .before .before .codewords .ensures, length-codewords (s .args .n) (s .args .m) (s .args .bytes)) (omega (arith, few, b)),
+      rw b (s .pre .1),
+      omega arith,
+    )
 
 array-write-all : tie.Need-array-write-all Inv-loop μ-loop
 array-write-all c = omega arith
@@ -54,8 +62,7 @@ loop-again : tie.Need-loop-again Inv-loop μ-loop
 loop-again c = filled-more _ _ _ _ _ _ (c .before .before .before .loop .inv) (omega arith) (c .agreement-at .ensures)
 
 returns : tie.Need-returns Inv-loop μ-loop
-unfolding agreements
-returns c = filled-done _ _ _ _ _ (c .before .loop .inv) (omega arith) (omega arith)
+returns c = filled-done _ _ _ _ _ (c .before .loop .inv) (omega arith) (omega arith) ∙ agreements-are _ _ _ _ _ _ _ (c .before .before .before .before .before .pre .0) (c .before .before .before .before .before .pre .1) (c .before .before .before .blocks2 .ensures) (c .before .before .codewords .ensures)
 
 pub flags-spec : {M : Type 1} → statement M
 flags-spec =
@@ -63,10 +70,9 @@ flags-spec =
     (tie.spec
     Inv-loop
     μ-loop
-    values-requires
     blocks-requires
-    cast-message
-    message-requires
+    cast-b
+    codewords-requires
     loop-holds
     cast-at
     slice-aggregate-agreement-at

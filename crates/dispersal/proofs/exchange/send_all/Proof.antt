@@ -1,52 +1,69 @@
 -- `exchange::send_all` meets its contract.
+use mathlib.Core.Path.{_∙_}
 use Prim.Native.Nat.{_-_, _*_}
 use native.Mathlib.Omega.{arith}
+use borrow.Author.Needs.{needs}
 use Rattle.lists.specs.Loops.{Rowed, rowed-none, rowed-fits, rowed-more, rowed-room, rowed-done}
-use Rattle.sizes.specs.Sizes.{blocks}
-use Rattle.sizes.specs.Laws.{blocks-le}
-use Rattle.messages.specs.Messages.{said}
-use Rattle.dispersal.specs.Dispersal.{exchange, exchanges}
+use Rattle.sizes.specs.Laws.{blocks-le, accepted, few-blocks}
+use Rattle.codeword.specs.Words.{length-codewords}
+use Rattle.dispersal.specs.Laws.{paired, paired-is}
 use Rattle.dispersal.proofs.exchange.send_all.Statement.{statement}
 use Rattle.dispersal.proofs.exchange.send_all.Tie as tie
 
 abbrev Inv-loop : tie.InvT-loop
-Inv-loop n m own bytes out₀ w mine j₀ out j = Rowed (λ j. said (exchange n m own bytes j)) (2 * blocks n m) n out₀ out j
+Inv-loop n m own out₀ b words j₀ out j = Rowed (paired b words own) (2 * b) n out₀ out j
 
 abbrev μ-loop : tie.MeasureT-loop
-μ-loop n m own bytes out₀ w mine j₀ out j = n - j
+μ-loop n m own out₀ b words j₀ out j = n - j
 
 blocks-requires : tie.Need-blocks-requires Inv-loop μ-loop
 blocks-requires c κs = tt
 
-cast-w : tie.Need-cast-w Inv-loop μ-loop
-cast-w c = record { fits = omega (arith, c .blocks2 .ensures, blocks-le (c .before .before .args .n) (c .before .before .args .m)) }
+cast-b : tie.Need-cast-b Inv-loop μ-loop
+cast-b c = record { fits = omega (arith, c .blocks2 .ensures, blocks-le (c .before .before .args .n) (c .before .before .args .m)) }
 
-mul-w : tie.Need-mul-w Inv-loop μ-loop
-mul-w c = record { fits = omega (arith, c .blocks2 .ensures, blocks-le (c .before .before .args .n) (c .before .before .args .m)) }
-
-values-requires : tie.Need-values-requires Inv-loop μ-loop
-values-requires c κs = tt
+codewords-requires : tie.Need-codewords-requires Inv-loop μ-loop
+codewords-requires c κs = tt
 
 loop-holds : tie.Need-loop-holds Inv-loop μ-loop
-loop-holds c = rowed-none _ _ _ _ (c .before .before .before .pre .1)
+loop-holds c = rowed-none _ _ _ _ (rw (c .before .blocks2 .ensures) (c .before .before .before .pre .1))
+
+mul-place : tie.Need-mul-place Inv-loop μ-loop
+mul-place c = record { fits = omega (arith, c .before .before .before .blocks2 .ensures, few-blocks (c .before .before .before .before .before .args .n) (c .before .before .before .before .before .args .m) (c .before .before .before .before .before .args .own) (c .before .before .before .before .before .pre .0)) }
 
 place-requires : tie.Need-place-requires Inv-loop μ-loop
 place-requires c κs = tt
 
+slice-aggregate-send-one : tie.Need-slice-aggregate-send-one Inv-loop μ-loop
+slice-aggregate-send-one c = search needs
+
+add-send-one : tie.Need-add-send-one Inv-loop μ-loop
+add-send-one c = omega arith
+
 mul-send-one : tie.Need-mul-send-one Inv-loop μ-loop
-mul-send-one c = omega (arith, rw (c .before .before .before .before .blocks2 .ensures) at (c .place .ensures), rowed-fits _ _ _ _ _ _ (c .before .before .loop .inv) (omega arith), c .before .before .before .before .before .before .good)
+mul-send-one c = omega (arith, c .before .place .ensures, rowed-fits _ _ _ _ _ _ (c .before .before .before .loop .inv) (omega arith), c .before .before .before .before .before .before .before .good)
 
 sub-send-one : tie.Need-sub-send-one Inv-loop μ-loop
-sub-send-one c = omega (arith, rw (c .before .before .before .before .blocks2 .ensures) at (c .place .ensures), rowed-fits _ _ _ _ _ _ (c .before .before .loop .inv) (omega arith))
+sub-send-one c = omega (arith, c .before .place .ensures, rowed-fits _ _ _ _ _ _ (c .before .before .before .loop .inv) (omega arith))
 
 part-send-one-start : tie.Need-part-send-one-start Inv-loop μ-loop
-part-send-one-start c = omega (arith, rw (c .before .before .before .before .blocks2 .ensures) at (c .place .ensures), rowed-fits _ _ _ _ _ _ (c .before .before .loop .inv) (omega arith))
+part-send-one-start c = omega (arith, c .before .place .ensures, rowed-fits _ _ _ _ _ _ (c .before .before .before .loop .inv) (omega arith))
 
 part-send-one-end : tie.Need-part-send-one-end Inv-loop μ-loop
 part-send-one-end c = omega arith
 
 send-one-requires : tie.Need-send-one-requires Inv-loop μ-loop
-send-one-requires c κs = (c .before .before .before .before .before .before .before .pre .0, c .before .before .before .before .values .ensures, rowed-room _ _ _ _ _ _ _ (c .before .before .before .loop .inv) (omega arith) (omega (arith, rw (c .before .before .before .before .before .blocks2 .ensures) at (c .before .place .ensures))))
+send-one-requires c κs =
+    let s = c .before .before .before .before .before .before .before .before in
+    let a = accepted (s .args .n) (s .args .m) (s .args .own) (s .pre .0) in
+    let few = few-blocks (s .args .n) (s .args .m) (s .args .own) (s .pre .0) in (
+      a .number-low,
+      omega (arith, a .number-high, a .range .columns-high),
+      omega arith,
+      omega (arith, a .range .columns-high),
+      rw (c .before .before .before .before .before .codewords .ensures, length-codewords (s .args .n) (s .args .m) (s .args .bytes)) (omega (arith, few, c .before .before .before .before .before .before .blocks2 .ensures)),
+      rowed-room _ _ _ _ _ _ _ (c .before .before .before .before .loop .inv) (omega arith) (omega (arith, c .before .before .place .ensures)),
+    )
 
 add-j : tie.Need-add-j Inv-loop μ-loop
 add-j c = omega arith
@@ -55,14 +72,13 @@ loop-less : tie.Need-loop-less Inv-loop μ-loop
 loop-less c = omega arith
 
 loop-again : tie.Need-loop-again Inv-loop μ-loop
-loop-again c = rowed-more _ _ _ _ _ _ _ _ (c .before .before .before .before .before .before .loop .inv) (omega arith) (omega (arith, rw (c .before .before .before .before .before .before .before .before .blocks2 .ensures) at (c .before .before .before .before .place .ensures))) (c .before .before .send-one .ensures)
+loop-again c = rowed-more _ _ _ _ _ _ _ _ (c .before .before .before .before .before .before .before .loop .inv) (omega arith) (omega (arith, c .before .before .before .before .before .place .ensures)) (c .before .before .send-one .ensures)
 
 same-length : tie.Need-same-length Inv-loop μ-loop
 same-length c = c .before .loop .inv .same
 
 returns : tie.Need-returns Inv-loop μ-loop
-unfolding exchanges
-returns c = rowed-done _ _ _ _ _ _ (c .before .loop .inv) (omega arith)
+returns c = rowed-done _ _ _ _ _ _ (c .before .loop .inv) (omega arith) ∙ paired-is _ _ _ _ _ _ (c .before .before .before .before .before .pre .0) (c .before .before .before .blocks2 .ensures) (c .before .before .codewords .ensures)
 
 pub send-all-spec : {M : Type 1} → statement M
 send-all-spec =
@@ -71,11 +87,13 @@ send-all-spec =
     Inv-loop
     μ-loop
     blocks-requires
-    cast-w
-    mul-w
-    values-requires
+    cast-b
+    codewords-requires
     loop-holds
+    mul-place
     place-requires
+    slice-aggregate-send-one
+    add-send-one
     mul-send-one
     sub-send-one
     part-send-one-start

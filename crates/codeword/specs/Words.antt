@@ -1,0 +1,140 @@
+-- The laws of codewords: a block's values at the points 1 to 32, byte after byte, the last one first.
+use mathlib.Core.Path.{_≡_, refl, sym, ap, ap₂, _∙_}
+use mathlib.Core.Bool.{cond}
+use mathlib.Core.List.{List, _++_}
+use Prim.Native.Nat.{ℕ, zero, suc, _+_, _-_, _*_, _≤_, _<_}
+use native.Mathlib.Decide.{decLt}
+use native.Mathlib.Omega.{arith}
+use borrow.Author.Tests.{lt-ltb, le-ltb, le-leb, lt-leb}
+use lib.Dec.{ltb, lit<}
+use lib.ListN.{length, drop, getD, replicate}
+use Rattle.lists.specs.Lists.{Below, listOf, rowsOf}
+use Rattle.lists.specs.Entries.{getD-listOf, listOf-same, below-listOf}
+use Rattle.lists.specs.Rows.{length-rowsOf, rowsOf-same, inRow-rowsOf}
+use Rattle.field.specs.Field.{add, multiply, blank}
+use Rattle.block.specs.Block.{part, value}
+use Rattle.block.specs.Value.{value-lt, value-none, value-next}
+use Rattle.sizes.specs.Sizes.{degree, blocks}
+use Rattle.messages.specs.Messages.{said, written}
+use Rattle.messages.specs.Laws.{written-fits}
+use Rattle.codeword.specs.Codeword.{point, values, codewordAt, codewords, across, writtenAcross}
+use Rattle.codeword.specs.Apart.{said-values, said-past}
+
+-- A VALUE, with the sizes at hand
+
+unfoldable pub valueIn : ℕ → ℕ → List ℕ → ℕ → ℕ → ℕ
+valueIn b size bytes x k = cond (ltb k b) (value (part bytes (k * size) size) x) blank
+
+pub value-in : (n m b size : ℕ) (bytes : List ℕ) (x k : ℕ) → b ≡ blocks n m → size ≡ degree n + 1 → valueIn b size bytes x k ≡ said (values n m bytes x) k
+unfolding valueIn point
+value-in n m b size bytes x k e f = rw (e, f) (go (decLt k (blocks n m)))
+  where
+    go : Dec (k < blocks n m) → valueIn (blocks n m) (degree n + 1) bytes x k ≡ said (values n m bytes x) k
+    go (yes l) = rw (lt-ltb k (blocks n m) l) (sym (said-values n m bytes x k l))
+    go (no l) = rw (le-ltb k (blocks n m) (omega arith)) (sym (said-past n m bytes x k (omega arith)))
+
+-- A CODEWORD
+
+-- place i of a polynomial's codeword
+unfoldable pub wordAt : List ℕ → ℕ → ℕ
+wordAt cs i = value cs (i + 1)
+
+-- with one byte more in front of the polynomial
+unfoldable pub longerAt : ℕ → List ℕ → ℕ → ℕ
+longerAt byte rest i = add byte (multiply (i + 1) (getD rest i 0))
+
+pub word-below : (cs : List ℕ) → Below 257 (listOf (wordAt cs) 32)
+unfolding wordAt
+word-below cs = below-listOf 257 (wordAt cs) 32 (lit< tt) (λ i. value-lt cs (i + 1))
+
+-- an array of one value
+copies : (v : ℕ) → replicate 32 v ≡ listOf (λ _. v) 32
+unfolding listOf
+copies v = refl
+
+pub word-none : (bytes : List ℕ) (from : ℕ) → replicate 32 0 ≡ listOf (wordAt (part bytes from 0)) 32
+unfolding wordAt
+word-none bytes from = copies 0 ∙ listOf-same (λ _. 0) (wordAt (part bytes from 0)) 32 (λ i _. sym (value-none bytes from (i + 1)))
+
+pub word-next : (bytes : List ℕ) (from count i byte : ℕ) (rest : List ℕ) → i < count → byte ≡ getD bytes (from + (count - 1 - i)) 0
+    → rest ≡ listOf (wordAt (part bytes (from + (count - i)) i)) 32
+    → listOf (longerAt byte rest) 32 ≡ listOf (wordAt (part bytes (from + (count - (i + 1))) (i + 1))) 32
+unfolding longerAt wordAt
+word-next bytes from count i byte rest h e f =
+    rw (e, f)
+    (listOf-same (longerAt (getD bytes (from + (count - 1 - i)) 0) (listOf word 32)) (wordAt (part bytes (from + (count - (i + 1))) (i + 1))) 32 (λ p l.
+    rw (getD-listOf word 32 p 0 l) (value-next bytes from count i (p + 1) h)))
+  where
+    word : ℕ → ℕ
+    word = wordAt (part bytes (from + (count - i)) i)
+
+-- THE CODEWORDS OF A RECORD, with the sizes at hand
+
+unfoldable pub rowAt : ℕ → ℕ → List ℕ → ℕ → ℕ → ℕ
+rowAt b size bytes row i = valueIn b size bytes (i + 1) (row - 1)
+
+pub row-none : (b size : ℕ) (bytes : List ℕ) (k : ℕ) → b ≤ k → replicate 32 blank ≡ listOf (rowAt b size bytes (k + 1)) 32
+unfolding rowAt valueIn
+row-none b size bytes k h =
+    let e : k + 1 - 1 ≡ k = omega arith in
+    copies blank ∙ listOf-same (λ _. blank) (rowAt b size bytes (k + 1)) 32 (λ i _. rw (e, le-ltb k b h))
+
+pub row-word : (b size : ℕ) (bytes : List ℕ) (k : ℕ) → k < b → listOf (wordAt (part bytes (k * size) size)) 32 ≡ listOf (rowAt b size bytes (k + 1)) 32
+unfolding rowAt valueIn wordAt
+row-word b size bytes k h =
+    let e : k + 1 - 1 ≡ k = omega arith in
+    listOf-same (wordAt (part bytes (k * size) size)) (rowAt b size bytes (k + 1)) 32 (λ i _. rw (e, lt-ltb k b h))
+
+-- a row that was made as a list, written
+pub row-written : (f : ℕ → ℕ) (word part : List ℕ) → 32 ≤ length part → word ≡ listOf f 32 → written 32 word part ≡ listOf f 32 ++ drop 32 part
+unfolding said
+row-written f word part h e =
+    written-fits 32 word part h ∙ ap (λ (front : List ℕ). front ++ drop 32 part) same
+  where
+    same : listOf (said word) 32 ≡ listOf f 32
+    same = rw e (listOf-same (said (listOf f 32)) f 32 (λ k l. getD-listOf f 32 k blank l))
+
+pub rows-are : (n m b size : ℕ) (bytes : List ℕ) → b ≡ blocks n m → size ≡ degree n + 1 → rowsOf (rowAt b size bytes) 32 32 ≡ codewords n m bytes
+unfolding codewords codewordAt rowAt
+rows-are n m b size bytes e f =
+    rowsOf-same (rowAt b size bytes) (codewordAt n m bytes) 32 32 (λ row i. value-in n m b size bytes (i + 1) (row - 1) e f)
+
+-- ACROSS THEM
+
+-- what the codewords have at a place is the message of the values at its point
+pub across-is : (n m : ℕ) (bytes : List ℕ) (i k : ℕ) → i < 32 → k < 32 → across (codewords n m bytes) i k ≡ said (values n m bytes (i + 1)) k
+unfolding across codewords codewordAt
+across-is n m bytes i k h l =
+    let e : 32 * k + i ≡ (k + 1 - 1) * 32 + i = omega arith in
+    let f : k + 1 - 1 ≡ k = omega arith in
+    ap (λ (p : ℕ). getD (codewords n m bytes) p 0) e
+    ∙ inRow-rowsOf (codewordAt n m bytes) 32 32 (k + 1) i 0 (omega arith) (omega arith) h
+    ∙ ap (λ (q : ℕ). said (values n m bytes (i + 1)) q) f
+
+pub length-codewords : (n m : ℕ) (bytes : List ℕ) → length (codewords n m bytes) ≡ 1024
+unfolding codewords
+length-codewords n m bytes = length-rowsOf (codewordAt n m bytes) 32 32
+
+-- rows that agree at each place
+pub rows-same : (f g : ℕ → ℕ → ℕ) (w n : ℕ) → ((j k : ℕ) → 1 ≤ j → j ≤ n → k < w → f j k ≡ g j k) → rowsOf f w n ≡ rowsOf g w n
+unfolding rowsOf
+rows-same f g w zero h = refl
+rows-same f g w (suc n) h =
+    ap₂ {C = List ℕ} (λ rows row. rows ++ row) (rows-same f g w n (λ j k l u. h j k l (omega arith))) (listOf-same (f (suc n)) (g (suc n)) w (λ k. h (suc n) k (omega arith) (omega arith)))
+
+module _ (b : ℕ) (words : List ℕ) (i : ℕ) (part : List ℕ) where
+  pub across-written : b ≤ length part → i < 32 → 32 * b ≤ length words → writtenAcross b words i part ≡ listOf (across words i) b ++ drop b part
+  unfolding writtenAcross
+  across-written h l u = simp (le-leb b (length part) h, lt-ltb i 32 l, le-leb (32 * b) (length words) u)
+
+  pub across-no-room : length part < b → part ≡ writtenAcross b words i part
+  unfolding writtenAcross
+  across-no-room h = simp (lt-leb b (length part) h)
+
+  pub across-no-place : b ≤ length part → 32 ≤ i → part ≡ writtenAcross b words i part
+  unfolding writtenAcross
+  across-no-place h l = simp (le-leb b (length part) h, le-ltb i 32 l)
+
+  pub across-no-words : b ≤ length part → i < 32 → length words < 32 * b → part ≡ writtenAcross b words i part
+  unfolding writtenAcross
+  across-no-words h l u = simp (le-leb b (length part) h, lt-ltb i 32 l, lt-leb (32 * b) (length words) u)

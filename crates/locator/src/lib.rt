@@ -16,17 +16,6 @@ struct Weights {
     second: u16,
 }
 
-// s modulo m, for a number below twice m.
-fn less(s: u16, m: u16) -> u16
-    requires { ⌜ s < m + m ⌝ }
-    ensures { λ r. ⌜ r ≡ s % m ⌝ }
-{
-    if s < m {
-        return s;
-    }
-    s - m
-}
-
 // A small number that is x modulo 257: 65536 leaves 1, and 256 leaves -1.
 fn near(x: u32) -> u16
     requires { ⌜ x ≤ 65536 ⌝ }
@@ -37,15 +26,12 @@ fn near(x: u32) -> u16
     low % 256 + high + 257 - low / 256
 }
 
-// a times b plus c times d. Of numbers below 257 it takes no division, so that the machine does eight at a time.
+// a times b plus c times d. Of numbers below 257 every sum fits 16 bits, so that the machine does eight at a time.
 fn products(a: u16, b: u16, c: u16, d: u16) -> u16
     requires { ⌜ (a < 257) × (b < 257) × (c < 257) × (d < 257) ⌝ }
     ensures { λ r. ⌜ r ≡ add (multiply a b) (multiply c d) ⌝ }
 {
-    less(
-        less(near(a as u32 * b as u32) + near(c as u32 * d as u32), 514),
-        257,
-    )
+    (near(a as u32 * b as u32) + near(c as u32 * d as u32)) % Field::MODULUS
 }
 
 // A number of the first pair at the start, e = 0 and q = 1.
@@ -104,7 +90,7 @@ fn raised_at(minus: u16, i: usize, v: u16) -> u16
     requires { ⌜ (225 ≤ minus) × (minus < 257) × (v < 257) ⌝ }
     ensures { λ r. ⌜ r ≡ multiply ((i % 32 + 1 + minus) % 257) v ⌝ }
 {
-    products(less((i % 32 + 1) as u16 + minus, 257), v, 0, 0)
+    products(((i % 32 + 1) as u16 + minus) % Field::MODULUS, v, 0, 0)
 }
 
 // The leading pair times (x - place).

@@ -30,10 +30,6 @@ pub times : (a a′ b b′ : ℕ) → a ≋ a′ → b ≋ b′ → a * b ≋ a�
 times a a′ b b′ h k =
     scale a b b′ k ∙ ap (λ (z : ℕ). z % 257) (mul-comm a b′) ∙ scale b′ a a′ h ∙ ap (λ (z : ℕ). z % 257) (mul-comm b′ a′)
 
--- 514 is a multiple of 257
-pub halves : (s : ℕ) → s % 514 ≋ s
-halves s = omega arith
-
 -- a sum of reduced products
 pub products : (a b c d : ℕ) → a * b % 257 + c * d % 257 ≋ a * b + c * d
 products a b c d = omega arith

@@ -8,8 +8,8 @@ use native.Mathlib.Nat.{eq-or-lt-of-le, le-of-suc-le-suc, le-refl, le-trans, le-
 use native.Mathlib.Numerals.{add-one}
 use native.Mathlib.Decide.{decLt}
 use native.Mathlib.Omega.{arith}
-use lib.ListN.{length, take, drop, getD, set, length-append, drop-of-length-le, List·getD-append, List·getD-eq-default}
-use lib.Seq.{drop-cons, set-at, getD-append-seam, ext-getD}
+use lib.ListN.{length, take, drop, getD, set, length-append, length-set, drop-of-length-le, List·getD-append, List·getD-eq-default}
+use lib.Seq.{drop-cons, set-at, getD-append-seam, getD-set-same, getD-set-other, ext-getD}
 use lib.Dec.{T, eqb, eqb→eq, eqb-refl}
 use Rattle.lists.specs.Lists.{all, sum, Below, same, listOf}
 use Rattle.lists.specs.Tests.{and-left, and-right, and-both}
@@ -27,6 +27,10 @@ all-none P = refl
 pub all-more : (P : ℕ → Bool) (i : ℕ) → all P i ≡ true → P i ≡ true → all P (i + 1) ≡ true
 unfolding all
 all-more P i h t = rw (add-one, h) t
+
+pub all-next : (P : ℕ → Bool) (i : ℕ) → all P (i + 1) ≡ all P i && P i
+unfolding all
+all-next P i = rw add-one
 
 -- what all pass, each passes, and the other way round
 pub all-each : (P : ℕ → Bool) (n : ℕ) → T (all P n) → (i : ℕ) → i < n → T (P i)
@@ -117,6 +121,22 @@ module _ {ℓ} {A : Type ℓ} where
   listOf-getD l n z e =
       ext-getD z (listOf (λ i. getD l i z) n) l (length-listOf (λ i. getD l i z) n ∙ sym e) (λ i h.
       getD-listOf (λ i. getD l i z) n i z (omega (arith, length-listOf (λ i. getD l i z) n)))
+
+  -- one entry is set to that of another function, which has the other entries too
+  pub listOf-set : (f g : ℕ → A) (n a : ℕ) (v : A) → a < n → v ≡ g a → ((i : ℕ) → i < n → (i ≡ a → ⊥) → f i ≡ g i) → set (listOf f n) a v ≡ listOf g n
+  listOf-set f g n a v l e h =
+      ext-getD v (set (listOf f n) a v) (listOf g n) (length-set (listOf f n) a v ∙ length-listOf f n ∙ sym (length-listOf g n)) (λ i u.
+      at i (omega (arith, length-set (listOf f n) a v, length-listOf f n)) (decLt i a) (decLt a i))
+    where
+      other : (i : ℕ) → i < n → (i ≡ a → ⊥) → getD (set (listOf f n) a v) i v ≡ getD (listOf g n) i v
+      other i u q = getD-set-other (listOf f n) a i v v q ∙ getD-listOf f n i v u ∙ h i u q ∙ sym (getD-listOf g n i v u)
+
+      at : (i : ℕ) → i < n → Dec (i < a) → Dec (a < i) → getD (set (listOf f n) a v) i v ≡ getD (listOf g n) i v
+      at i u (yes q) r = other i u (λ s. omega arith)
+      at i u (no q) (yes r) = other i u (λ s. omega arith)
+      at i u (no q) (no r) =
+          let s : i ≡ a = omega arith in
+          rw s (getD-set-same (listOf f n) a v v (omega (arith, length-listOf f n)) ∙ e ∙ sym (getD-listOf g n a v l))
 
   -- a list in two parts
   pub listOf-cut : (f : ℕ → A) (a b : ℕ) → listOf f (a + b) ≡ listOf f a ++ listOf (λ i. f (a + i)) b

@@ -1,17 +1,21 @@
 -- Invariants of loops that count up, each with its laws: `-none` as the loop begins, `-more` for one turn, `-done` at its end.
 -- Filled: an array is filled from the front. Rowed: an outgoing slice is filled row by row, each through the part that starts at its
--- place. Checked: a test is looked for that fails. Counted: the columns that pass a test are counted.
+-- place. Checked: a test is looked for that fails. Tested: all tests are made, and their answers put together. Counted: the columns that
+-- pass a test are counted.
 use mathlib.Core.Path.{_≡_, refl, ap, sym, _∙_}
-use mathlib.Core.Bool.{Bool, true, false, not}
+use mathlib.Core.Bool.{Bool, true, false, not, _&&_}
 use borrow.Author.Tests.{not-true, not-false}
 use mathlib.Core.List.{List, [], _++_, append-nil}
 use Prim.Native.Nat.{ℕ, _+_, _-_, _*_, _≤_, _<_}
 use native.Mathlib.Nat.{add-zero}
 use native.Mathlib.Omega.{arith}
-use lib.ListN.{length, take, drop, getD, set, length-append, length-drop, length-set, drop-of-length-le}
-use lib.Seq.{getD-drop, take-all, length-take-le, getD-append-add}
+use lib.ListN.{length, take, drop, getD, set, length-append, length-drop, length-set, drop-of-length-le, List·getD-append}
+use lib.Seq.{getD-drop, take-all, length-take-le, getD-append-add, ext-getD}
+use native.Mathlib.Decide.{decLt}
+use lib.Dec.{T}
 use Rattle.lists.specs.Lists.{bit, count, all, listOf, rowsOf}
-use Rattle.lists.specs.Entries.{all-none, all-more, all-fails, length-listOf, listOf-none, listOf-more, listOf-done}
+use Rattle.lists.specs.Entries.{all-none, all-more, all-next, all-fails, each-all, length-listOf, getD-listOf, listOf-none, listOf-more, listOf-done}
+use Rattle.lists.specs.Tests.{is-true}
 use Rattle.lists.specs.Rows.{row-fits, rowsOf-none, rowsOf-more, rowsOf-done}
 use Rattle.lists.specs.Count.{count-more}
 
@@ -51,6 +55,21 @@ module _ {ℓ} {A : Type ℓ} where
   -- the first n are written, and there are no more
   pub filled-done : (f : ℕ → A) (n : ℕ) (d₀ d : List A) (i : ℕ) → Filled f n d₀ d i → n ≤ i → length d₀ ≤ n → d ≡ listOf f n
   filled-done f n d₀ d i p h l = filled-part f n d₀ d i p h ∙ listOf-done f n d₀ l
+
+  -- the rest was right before
+  pub filled-rest : (f : ℕ → A) (n : ℕ) (d₀ d : List A) (i : ℕ) (z : A) → Filled f n d₀ d i → length d₀ ≡ n → ((j : ℕ) → i ≤ j → j < n → getD d₀ j z ≡ f j)
+      → d ≡ listOf f n
+  filled-rest f n d₀ d i z p l h =
+      ext-getD z d (listOf f n) (p .same ∙ l ∙ sym (length-listOf f n)) (λ j u.
+      rw (p .holds) (at j (omega (arith, p .same, l)) (decLt j i)) ∙ sym (getD-listOf f n j z (omega (arith, p .same, l))))
+    where
+      at : (j : ℕ) → j < n → Dec (j < i) → getD (listOf f i ++ drop i d₀) j z ≡ f j
+      at j u (yes b) = List·getD-append (listOf f i) (drop i d₀) z j (omega (arith, length-listOf f i)) ∙ getD-listOf f i j z b
+      at j u (no b) =
+          let e : getD (listOf f i ++ drop i d₀) (length (listOf f i) + (j - i)) z ≡ getD (drop i d₀) (j - i) z = getD-append-add (listOf f i) (drop i d₀) (j - i) z in
+          let q : length (listOf f i) + (j - i) ≡ j = omega (arith, length-listOf f i) in
+          let r : i + (j - i) ≡ j = omega arith in
+          (rw q at e) ∙ getD-drop i d₀ (j - i) z ∙ rw r (h j (omega arith) u)
 
   -- the rows of columns 1 to j are written, of n with w values each
   pub record Rowed (f : ℕ → ℕ → A) (w n : ℕ) (d₀ d : List A) (j : ℕ) : Type ℓ where
@@ -119,6 +138,26 @@ pub checked-done : (P : ℕ → Bool) (n i : ℕ) → Checked P n i → n ≤ i 
 checked-done P n i p h =
     let e : i ≡ n = omega (arith, p .within) in
     sym (rw e at (p .holds))
+
+-- b is whether the first i of n numbers pass
+pub record Tested (P : ℕ → Bool) (n : ℕ) (b : Bool) (i : ℕ) : Type 0 where
+  pub within : i ≤ n
+  pub holds : b ≡ all P i
+
+-- the loop begins at the number a, below which all pass
+pub tested-from : (P : ℕ → Bool) (n a : ℕ) → a ≤ n → ((i : ℕ) → i < a → T (P i)) → Tested P n true a
+tested-from P n a h t = record { within = h; holds = sym (is-true (all P a) (each-all P a t)) }
+
+pub tested-none : (P : ℕ → Bool) (n : ℕ) → Tested P n true 0
+tested-none P n = tested-from P n 0 (omega arith) (λ i h. absurd (omega arith))
+
+pub tested-more : (P : ℕ → Bool) (n i : ℕ) (b v : Bool) → Tested P n b i → i < n → v ≡ P i → Tested P n (b && v) (i + 1)
+tested-more P n i b v p h e = record { within = omega arith; holds = rw (p .holds, e) (sym (all-next P i)) }
+
+pub tested-done : (P : ℕ → Bool) (n i : ℕ) (b : Bool) → Tested P n b i → n ≤ i → b ≡ all P n
+tested-done P n i b p h =
+    let e : i ≡ n = omega (arith, p .within) in
+    rw e at (p .holds)
 
 -- k of the columns 1 to i, of n, pass
 pub record Counted (P : ℕ → Bool) (n i k : ℕ) : Type 0 where

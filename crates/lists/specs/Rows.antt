@@ -1,6 +1,6 @@
 -- Laws of rows: column j's row is the part of w values that starts at place (j - 1) * w.
 use mathlib.Core.Path.{_≡_, refl, ap, ap₂, sym, _∙_}
-use mathlib.Core.List.{List, _++_, append-assoc, append-nil}
+use mathlib.Core.List.{List, [], _∷_, _++_, append-assoc, append-nil}
 use mathlib.Core.Logic.{⊎-elim}
 use Prim.Native.Nat.{ℕ, zero, suc, _+_, _-_, _*_, _≤_, _<_}
 use native.Mathlib.Nat.{suc-mul, zero-mul, eq-or-lt-of-le, mul-le-mul-right, le-of-suc-le-suc}
@@ -27,6 +27,12 @@ module _ {ℓ} {A : Type ℓ} where
   unfolding rowsOf
   rowsOf-same f g w zero h = refl
   rowsOf-same f g w (suc n) h = ap₂ {C = List A} (λ rows row. rows ++ row) (rowsOf-same f g w n h) (listOf-same (f (suc n)) (g (suc n)) w (λ k _. h (suc n) k))
+
+  -- rows of one value
+  pub rowsOf-one : (f : ℕ → ℕ → A) (n : ℕ) → rowsOf f 1 n ≡ listOf (λ i. f (suc i) 0) n
+  unfolding rowsOf listOf
+  rowsOf-one f zero = refl
+  rowsOf-one f (suc n) = ap (λ (l : List A). l ++ (f (suc n) 0 ∷ [])) (rowsOf-one f n)
 
   at-place : (f : ℕ → ℕ → A) (w n j k : ℕ) (z : A) → j < n → k < w → getD (rowsOf f w n) (j * w + k) z ≡ f (suc j) k
   unfolding rowsOf

@@ -1,18 +1,18 @@
 -- The laws of messages.
 use mathlib.Core.Path.{_≡_, refl, sym, ap, _∙_}
 use mathlib.Core.Bool.{Bool, true, false, cond}
-use mathlib.Core.Logic.{_⊎_, inl, inr}
+use mathlib.Core.Logic.{_⊎_, inl, inr, ⊎-elim}
 use mathlib.Core.List.{List, _++_}
 use Prim.Native.Nat.{ℕ, _+_, _-_, _*_, _≤_, _<_}
 use native.Mathlib.Omega.{arith}
 use native.Mathlib.Decide.{decLt}
 use borrow.Author.Tests.{ltb-true, lt-ltb, le-ltb, le-leb, lt-leb, eq-eqb, ne-eqb}
 use lib.Dec.{T, eqb, ltb, eqb→eq}
-use lib.ListN.{length, drop, getD, List·getD-eq-default}
+use lib.ListN.{length, drop, getD, set, List·getD-eq-default}
 use Rattle.lists.specs.Lists.{listOf, inRow}
-use Rattle.lists.specs.Entries.{length-listOf, getD-listOf, listOf-same}
+use Rattle.lists.specs.Entries.{length-listOf, getD-listOf, listOf-same, listOf-set}
 use Rattle.lists.specs.Tests.{passes}
-use Rattle.lists.specs.Rows.{rowsOf-same}
+use Rattle.lists.specs.Rows.{rowsOf-same, rowsOf-one}
 use Rattle.field.specs.Field.{blank}
 use Rattle.messages.specs.Messages.{readPoint, readReport, readBit, said, from, toAll, laid, written, put, refusal, unlessRefused, heard, heardFrom, heardOfAll}
 
@@ -159,3 +159,31 @@ module _ (own : ℕ) (mine : List ℕ) (w : ℕ) (inbox : List ℕ) where
   from-heard n k j l u h =
       let e : j - 1 + 1 ≡ j = omega arith in
       getD-listOf (heardFrom n own mine w inbox k) 31 (j - 1) blank (omega arith) ∙ simp (lt-ltb (j - 1) n (omega arith), e)
+
+-- ONE VALUE FROM EACH, where the slice has no more
+
+pub toAll-one : (n : ℕ) (message : List ℕ) → toAll n 1 message ≡ listOf (λ i. said message 0) n
+unfolding toAll
+toAll-one n message = rowsOf-one (λ j. said message) n
+
+module _ (n own : ℕ) (mine inbox : List ℕ) (size : length inbox ≡ n) where
+  -- what lies at place i, where this is not the own place
+  lies : (i : ℕ) → (i < n → i + 1 ≡ own → ⊥) → said inbox i ≡ heardFrom n own mine 1 inbox 0 i
+  unfolding said heardFrom
+  lies i h = go (decLt i n)
+    where
+      go : Dec (i < n) → getD inbox i blank ≡ cond (ltb i n) (heard own mine 1 inbox (i + 1) 0) blank
+      go (yes l) =
+          let e : (i + 1 - 1) * 1 + 0 ≡ i = omega arith in
+          rw (lt-ltb i n l, heard-other own mine 1 inbox (i + 1) 0 (h l), e) refl
+      go (no l) = rw (le-ltb i n (omega arith)) (List·getD-eq-default inbox blank {n = i} (omega arith))
+
+  pub one-of-others : (own < 1) ⊎ (n < own) → laid 31 inbox ≡ heardOfAll n own mine 1 inbox 0
+  unfolding laid heardOfAll
+  one-of-others o = listOf-same (said inbox) (heardFrom n own mine 1 inbox 0) 31 (λ i _. lies i (λ l e. ⊎-elim (λ (b : own < 1). omega arith) (λ (b : n < own). omega arith) o))
+
+  pub one-of-own : (a v : ℕ) → a + 1 ≡ own → own ≤ n → n ≤ 31 → v ≡ said mine 0 → set (laid 31 inbox) a v ≡ heardOfAll n own mine 1 inbox 0
+  unfolding laid heardOfAll heardFrom
+  one-of-own a v e u h q =
+      listOf-set (said inbox) (heardFrom n own mine 1 inbox 0) 31 a v (omega arith)
+      (rw (lt-ltb a n (omega arith), heard-own own mine 1 inbox (a + 1) 0 e) q) (λ i _ o. lies i (λ l s. o (omega arith)))

@@ -2,12 +2,12 @@
 // being what it would send itself. What is not there is blank.
 use field::Field;
 ghost use mathlib.Core.Path.{_≡_};
-ghost use mathlib.Core.Bool.{cond};
+ghost use mathlib.Core.Bool.{true, cond};
 ghost use Prim.Native.Nat.{_+_, _*_, _≤_};
 ghost use lib.Dec.{eqb, leb};
 ghost use lib.ListN.{length, getD};
 ghost use Rattle.lists.specs.Lists.{bit};
-ghost use Rattle.messages.specs.Messages.{readPoint, readReport, readBit, readByte, said, from, word as wordOf, toAll, written, put as putOf, refusal as refusalOf, unlessRefused, toAllRefusal, heard as heardOf, heardFrom, heardOfAll, times as timesOf};
+ghost use Rattle.messages.specs.Messages.{readPoint, readReport, readBit, readByte, said, from, word as wordOf, toAll, laid, written, put as putOf, refusal as refusalOf, unlessRefused, toAllRefusal, heard as heardOf, heardFrom, heardOfAll, times as timesOf};
 
 // A point, 0 to 256; any other value is blank.
 pub fn read_point(v: u16) -> u16
@@ -138,6 +138,16 @@ pub fn put(bytes: &[u8], part: &mut [u8]) -> u8
     0
 }
 
+// A message of one value to each column that the slice has a place for.
+fn one_to_each(message: &[u16], out: &mut [u16])
+    ensures { λ _. ⌜ now (out .exit) ≡ toAll (length (now (out .entry))) 1 (now (message .entry)) ⌝ }
+{
+    let v = value(message, 0);
+    for j in 0..out.len() {
+        out[j] = v;
+    }
+}
+
 // The same message of w values to each of n columns, each written through the part of the slice that starts at its place. Refused with 1
 // for n outside 4 to 31, and with 4 for a slice of another length; a refused call writes nothing.
 pub fn to_all(n: u8, w: u16, message: &[u16], out: &mut [u16]) -> u8
@@ -147,6 +157,10 @@ pub fn to_all(n: u8, w: u16, message: &[u16], out: &mut [u16]) -> u8
     let why = refusal(sizes::refusal(n, 1, 1), n, w, out.len());
     if why != 0 {
         return why;
+    }
+    if w == 1 {
+        one_to_each(message, out);
+        return 0;
     }
     for j in 0..n {
         let at = place(j, w, 0);
@@ -179,10 +193,58 @@ fn heard_from(n: u8, own: u8, mine: &[u16], w: u16, inbox: &[u16], k: u16, i: u8
     Field::BLANK
 }
 
+// Whether it is the one value from each of n columns that is asked for, and the slice has no more.
+fn one_each(n: u8, w: u16, k: u16, len: usize) -> bool
+    ensures { λ r. ⌜ (r ≡ true → (n ≤ 31) × (w ≡ 1) × (k ≡ 0) × (len ≡ n)) ⌝ }
+{
+    if 31 < n {
+        return false;
+    }
+    if w != 1 {
+        return false;
+    }
+    if k != 0 {
+        return false;
+    }
+    len == n as usize
+}
+
+// A message in 31 places; blank past its end.
+fn in_places(message: &[u16]) -> [u16; 31]
+    requires { ⌜ length (now message) ≤ 31 ⌝ }
+    ensures { λ r. ⌜ r ≡ laid 31 (now (message .entry)) ⌝ }
+{
+    let mut values = [65535u16; 31];
+    for i in 0..message.len() {
+        values[i] = message[i];
+    }
+    values
+}
+
+// The one value from each of n columns: what came as it lies, then the own place.
+fn one_of_all(n: u8, own: u8, mine: &[u16], inbox: &[u16]) -> [u16; 31]
+    requires { ⌜ (n ≤ 31) × (length (now inbox) ≡ n) ⌝ }
+    ensures { λ r. ⌜ r ≡ heardOfAll n own (now (mine .entry)) 1 (now (inbox .entry)) 0 ⌝ }
+{
+    let mut values = in_places(inbox);
+    if own == 0 {
+        return values;
+    }
+    if n < own {
+        return values;
+    }
+    let at = (own - 1) as usize;
+    values[at] = value(mine, 0);
+    values
+}
+
 // Value k from each of n columns, by column number; blank past n.
 pub fn heard_of_all(n: u8, own: u8, mine: &[u16], w: u16, inbox: &[u16], k: u16) -> [u16; 31]
     ensures { λ r. ⌜ r ≡ heardOfAll n own (now (mine .entry)) w (now (inbox .entry)) k ⌝ }
 {
+    if one_each(n, w, k, inbox.len()) {
+        return one_of_all(n, own, mine, inbox);
+    }
     let mut values = [65535u16; 31];
     for i in 0..31u8 {
         let at = i as usize;
@@ -192,7 +254,7 @@ pub fn heard_of_all(n: u8, own: u8, mine: &[u16], w: u16, inbox: &[u16], k: u16)
 }
 
 // 1 where x is v, else 0.
-fn one_if(x: u16, v: u16) -> usize
+fn one_if(x: u16, v: u16) -> u16
     ensures { λ r. ⌜ r ≡ bit (eqb x v) ⌝ }
 {
     if x == v {
@@ -201,13 +263,36 @@ fn one_if(x: u16, v: u16) -> usize
     0
 }
 
-// How many of n columns sent v, where their values lie by column number.
-pub fn times(n: u8, values: &[u16], v: u16) -> usize
+// How many of n columns sent v, of whose values some may not be there.
+fn times_past(n: u8, values: &[u16], v: u16) -> u16
     ensures { λ r. ⌜ r ≡ timesOf (from (now (values .entry))) v n ⌝ }
 {
-    let mut sum = 0usize;
+    let mut sum = 0u16;
     for i in 0..n {
         sum += one_if(value(values, i as usize), v);
     }
     sum
+}
+
+// How many of n columns sent v, whose values are all there.
+fn times_within(n: u8, values: &[u16], v: u16) -> u16
+    requires { ⌜ n ≤ length (now values) ⌝ }
+    ensures { λ r. ⌜ r ≡ timesOf (from (now (values .entry))) v n ⌝ }
+{
+    let mut sum = 0u16;
+    for i in 0..n {
+        let at = i as usize;
+        sum += one_if(values[at], v);
+    }
+    sum
+}
+
+// How many of n columns sent v, where their values lie by column number.
+pub fn times(n: u8, values: &[u16], v: u16) -> usize
+    ensures { λ r. ⌜ r ≡ timesOf (from (now (values .entry))) v n ⌝ }
+{
+    if values.len() < n as usize {
+        return times_past(n, values, v) as usize;
+    }
+    times_within(n, values, v) as usize
 }

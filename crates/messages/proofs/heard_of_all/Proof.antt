@@ -1,4 +1,5 @@
 -- `heard_of_all` meets its contract.
+use mathlib.Core.Path.{sym, _∙_}
 use Prim.Native.Nat.{_-_}
 use native.Mathlib.Omega.{arith}
 use Rattle.lists.specs.Loops.{Filled, filled-none, filled-more, filled-done}
@@ -11,6 +12,15 @@ Inv-loop n own mine w inbox k values₀ i₀ values i = Filled (heardFrom n own 
 
 abbrev μ-loop : tie.MeasureT-loop
 μ-loop n own mine w inbox k values₀ i₀ values i = 31 - i
+
+one-each-requires : tie.Need-one-each-requires Inv-loop μ-loop
+one-each-requires c κs = tt
+
+one-of-all-requires : tie.Need-one-of-all-requires Inv-loop μ-loop
+one-of-all-requires c κs = let h = c .before .one-each .ensures (c .if1 .taken) in (h .0, h .3)
+
+returns : tie.Need-returns Inv-loop μ-loop
+returns c = let h = c .before .before .one-each .ensures (c .before .if1 .taken) in rw (h .1, h .2) (c .one-of-all .ensures)
 
 loop-holds : tie.Need-loop-holds Inv-loop μ-loop
 loop-holds c = filled-none _ _ _ (omega arith)
@@ -36,9 +46,9 @@ loop-less c = omega arith
 loop-again : tie.Need-loop-again Inv-loop μ-loop
 loop-again c = filled-more _ _ _ _ _ _ (c .before .before .loop .inv) (omega arith) (c .heard-from .ensures)
 
-returns : tie.Need-returns Inv-loop μ-loop
+returns-2 : tie.Need-returns-2 Inv-loop μ-loop
 unfolding heardOfAll
-returns c = filled-done _ _ _ _ _ (c .before .loop .inv) (omega arith) (omega arith)
+returns-2 c = filled-done _ _ _ _ _ (c .before .loop .inv) (omega arith) (omega arith)
 
 pub heard-of-all-spec : {M : Type 1} → statement M
 heard-of-all-spec =
@@ -46,6 +56,9 @@ heard-of-all-spec =
     (tie.spec
     Inv-loop
     μ-loop
+    one-each-requires
+    one-of-all-requires
+    returns
     loop-holds
     cast-at
     heard-from-requires
@@ -54,4 +67,4 @@ heard-of-all-spec =
     add-i
     loop-less
     loop-again
-    returns)
+    returns-2)

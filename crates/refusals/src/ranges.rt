@@ -5,10 +5,12 @@ use field::Field;
 use sizes::Protocol;
 ghost use mathlib.Core.Path.{_≡_};
 ghost use mathlib.Core.Bool.{not, _&&_, _||_};
+ghost use Prim.Native.Nat.{_≤_};
 ghost use lib.Dec.{eqb, ltb};
 ghost use Rattle.lists.specs.Lists.{all};
 ghost use Rattle.field.specs.Field.{blank};
 ghost use Rattle.sizes.specs.Sizes.{outside};
+ghost use Rattle.sizes.specs.Laws.{InRange};
 ghost use Rattle.messages.specs.Messages.{readPoint};
 ghost use Rattle.agreement.specs.Column.{stageFits, byteFits, flagFits, pointFits, namesFit, numbersFit, arraysFit, fits as fitsOf};
 
@@ -59,46 +61,28 @@ fn numbers_fit(protocol: Protocol, column: Column) -> bool
     messages::read_bit(column.proposal) == column.proposal
 }
 
-// Whether v may stand at place p of a record of m bytes: past m only 0.
-fn byte_fits(m: u8, p: usize, v: u8) -> bool
-    ensures { λ r. ⌜ r ≡ ltb p m || eqb v 0 ⌝ }
-{
-    if p < m as usize {
-        return true;
-    }
-    v == 0
-}
-
+// Past m a record has only zeros.
 fn bytes_fit(m: u8, bytes: [u8; 32]) -> bool
+    requires { ⌜ m ≤ 32 ⌝ }
     ensures { λ r. ⌜ r ≡ all (byteFits m bytes) 32 ⌝ }
 {
-    for p in 0..32 {
-        if !byte_fits(m, p, bytes[p]) {
-            return false;
-        }
+    let mut fit = true;
+    for p in m as usize..32 {
+        fit = fit & (bytes[p] == 0);
     }
-    true
+    fit
 }
 
-// Whether column i + 1's flag may be so: past n only false.
-fn flag_fits(n: u8, i: usize, flag: bool) -> bool
-    ensures { λ r. ⌜ r ≡ ltb i n || not flag ⌝ }
-{
-    if i < n as usize {
-        return true;
-    }
-    !flag
-}
-
+// Past n no flag is set.
 fn flags_fit(n: u8, flags: [bool; 31]) -> bool
+    requires { ⌜ n ≤ 31 ⌝ }
     ensures { λ r. ⌜ r ≡ all (flagFits n flags) 31 ⌝ }
 {
-    for i in 0..31 {
-        if !flag_fits(n, i, flags[i]) {
-            return false;
-        }
+    let mut fit = true;
+    for i in n as usize..31 {
+        fit = fit & !flags[i];
     }
-    true
+    fit
 }
 
 // Whether v may be kept of block k, of b: a point or blank, past b only blank.
@@ -117,16 +101,16 @@ fn point_fits(b: usize, k: usize, v: u16) -> bool
 fn points_fit(b: usize, kept: [u16; 32]) -> bool
     ensures { λ r. ⌜ r ≡ all (pointFits b kept) 32 ⌝ }
 {
+    let mut fit = true;
     for k in 0..32 {
-        if !point_fits(b, k, messages::value(&kept, k)) {
-            return false;
-        }
+        fit = fit & point_fits(b, k, messages::value(&kept, k));
     }
-    true
+    fit
 }
 
-// The arrays of a state.
+// The arrays of a state. None is left at the first entry out of its range: that would cost a branch at each.
 fn arrays_fit(column: Column) -> bool
+    requires { ⌜ InRange (column .n) (column .m) ⌝ }
     ensures { λ r. ⌜ r ≡ arraysFit column ⌝ }
 {
     let bytes = column.bytes;

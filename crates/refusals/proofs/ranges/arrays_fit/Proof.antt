@@ -7,21 +7,21 @@ use Rattle.refusals.proofs.ranges.arrays_fit.Statement.{statement}
 use Rattle.refusals.proofs.ranges.arrays_fit.Tie as tie
 
 bytes-fit-requires : tie.Need-bytes-fit-requires
-bytes-fit-requires c κs = search needs
+bytes-fit-requires c κs = c .before .pre .bytes-high
 
 returns : tie.Need-returns
 unfolding arraysFit
 returns c = simp (sym (c .before .bytes-fit .ensures) ∙ not-true _ (c .if1 .taken))
 
 flags-fit-requires : tie.Need-flags-fit-requires
-flags-fit-requires c κs = search needs
+flags-fit-requires c κs = c .before .before .before .before .pre .columns-high
 
 returns-2 : tie.Need-returns-2
 unfolding arraysFit
 returns-2 c = simp (sym (c .before .before .before .before .bytes-fit .ensures) ∙ not-false _ (c .before .before .before .if1 .left), sym (c .before .flags-fit .ensures) ∙ not-true _ (c .if2 .taken))
 
 flags-fit-requires-2 : tie.Need-flags-fit-requires-2
-flags-fit-requires-2 c κs = search needs
+flags-fit-requires-2 c κs = c .before .before .before .before .before .before .before .pre .columns-high
 
 returns-3 : tie.Need-returns-3
 unfolding arraysFit

@@ -2,7 +2,11 @@
 use mathlib.Core.Path.{sym, _∙_}
 use borrow.Author.Tests.{not-true, not-false}
 use borrow.Author.Needs.{needs}
-use Rattle.agreement.specs.Column.{fits}
+use lib.Dec.{T, eqb, eqb→eq}
+use Rattle.lists.specs.Tests.{conj, passes}
+use Rattle.sizes.specs.Sizes.{refusal}
+use Rattle.sizes.specs.Laws.{accepted}
+use Rattle.agreement.specs.Column.{namesFit, numbersFit, fits}
 use Rattle.refusals.proofs.ranges.fits.Statement.{statement}
 use Rattle.refusals.proofs.ranges.fits.Tie as tie
 
@@ -14,7 +18,12 @@ unfolding fits
 returns c = simp (sym (c .before .numbers-fit .ensures) ∙ not-true _ (c .if1 .taken))
 
 arrays-fit-requires : tie.Need-arrays-fit-requires
-arrays-fit-requires c κs = search needs
+unfolding numbersFit namesFit
+arrays-fit-requires c κs =
+    let a = c .before .before .args in
+    let t : T (numbersFit (a .protocol) (a .column)) = passes _ (sym (c .before .numbers-fit .ensures) ∙ not-false _ (c .if1 .left)) in
+    let e : T (eqb (refusal (a .column .n) (a .column .m) (a .column .own)) 0) = search conj in
+    accepted _ _ _ (eqb→eq _ 0 e) .range
 
 returns-2 : tie.Need-returns-2
 unfolding fits

@@ -2,20 +2,20 @@
 use Prim.Native.Nat.{_-_}
 use native.Mathlib.Omega.{arith}
 use borrow.Author.Needs.{needs}
-use Rattle.lists.specs.Loops.{Checked, checked-none, checked-more, checked-fails, checked-done}
+use Rattle.lists.specs.Loops.{Tested, tested-none, tested-more, tested-done}
 use Rattle.messages.specs.Messages.{said}
 use Rattle.agreement.specs.Column.{pointFits}
 use Rattle.refusals.proofs.ranges.points_fit.Statement.{statement}
 use Rattle.refusals.proofs.ranges.points_fit.Tie as tie
 
 abbrev Inv-loop : tie.InvT-loop
-Inv-loop b kept k₀ k = Checked (pointFits b kept) 32 k
+Inv-loop b kept fit₀ k₀ fit k = Tested (pointFits b kept) 32 fit k
 
 abbrev μ-loop : tie.MeasureT-loop
-μ-loop b kept k₀ k = 32 - k
+μ-loop b kept fit₀ k₀ fit k = 32 - k
 
 loop-holds : tie.Need-loop-holds Inv-loop μ-loop
-loop-holds c = checked-none _ _
+loop-holds c = tested-none _ _
 
 slice-aggregate-value : tie.Need-slice-aggregate-value Inv-loop μ-loop
 slice-aggregate-value c = search needs
@@ -26,10 +26,6 @@ value-requires c κs = tt
 point-fits-requires : tie.Need-point-fits-requires Inv-loop μ-loop
 point-fits-requires c κs = tt
 
-returns : tie.Need-returns Inv-loop μ-loop
-unfolding pointFits said
-returns c = checked-fails _ _ _ _ (omega arith) (rw (c .before .before .value .ensures) at (c .before .point-fits .ensures)) (c .if1 .taken)
-
 add-k : tie.Need-add-k Inv-loop μ-loop
 add-k c = omega arith
 
@@ -38,10 +34,10 @@ loop-less c = omega arith
 
 loop-again : tie.Need-loop-again Inv-loop μ-loop
 unfolding pointFits said
-loop-again c = checked-more _ _ _ _ (c .before .before .before .before .before .loop .inv) (omega arith) (rw (c .before .before .value .ensures) at (c .before .point-fits .ensures)) (c .if1 .left)
+loop-again c = tested-more _ _ _ _ _ (c .before .before .before .before .loop .inv) (omega arith) (rw (c .before .value .ensures) at (c .point-fits .ensures))
 
-returns-2 : tie.Need-returns-2 Inv-loop μ-loop
-returns-2 c = checked-done _ _ _ (c .before .loop .inv) (omega arith)
+returns : tie.Need-returns Inv-loop μ-loop
+returns c = tested-done _ _ _ _ (c .before .loop .inv) (omega arith)
 
 pub points-fit-spec : {M : Type 1} → statement M
 points-fit-spec =
@@ -53,8 +49,7 @@ points-fit-spec =
     slice-aggregate-value
     value-requires
     point-fits-requires
-    returns
     add-k
     loop-less
     loop-again
-    returns-2)
+    returns)

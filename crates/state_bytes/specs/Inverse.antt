@@ -46,6 +46,20 @@ half-odd : (v q : ℕ) → (q % 2 ≡ 0 → ⊥) → half v q ≡ v / 256
 unfolding half
 half-odd v q e = simp (ne-eqb (q % 2) 0 e)
 
+-- the two bytes of kept point i
+pub low-byte : (kept : List ℕ) (i : ℕ) → half (getD kept i 0) 0 ≡ pointByte kept (2 * i)
+unfolding pointByte
+low-byte kept i =
+    let e : 2 * i / 2 ≡ i = omega arith in
+    half-even (getD kept i 0) 0 refl ∙ sym (half-even (getD kept (2 * i / 2) 0) (2 * i) (omega arith) ∙ ap (λ (q : ℕ). getD kept q 0 % 256) e)
+
+pub high-byte : (kept : List ℕ) (i : ℕ) → half (getD kept i 0) 1 ≡ pointByte kept (2 * i + 1)
+unfolding pointByte
+high-byte kept i =
+    let e : (2 * i + 1) / 2 ≡ i = omega arith in
+    half-odd (getD kept i 0) 1 (λ z. omega arith)
+    ∙ sym (half-odd (getD kept ((2 * i + 1) / 2) 0) (2 * i + 1) (λ z. omega arith) ∙ ap (λ (q : ℕ). getD kept q 0 / 256) e)
+
 stage-read : (s : Stage) → stageOf (stageByte s) (roundOf s) ≡ s
 unfolding stageOf stageByte roundOf
 stage-read (Speak round) = refl

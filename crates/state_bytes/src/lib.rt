@@ -22,29 +22,37 @@ pub fn encode(protocol: Protocol, column: Column, state: &mut [u8]) -> u8
     0
 }
 
+// The column that a whole state is read as.
+fn column(state: [u8; 170]) -> Column
+    ensures { λ r. ⌜ r ≡ decodeOf state ⌝ }
+{
+    let stage = reading::stage(state[5], state[6]);
+    let bytes = reading::bytes(&state, 12);
+    let agreements = reading::flags(&state, 44);
+    let reports = reading::flags(&state, 75);
+    let kept = reading::words(state, 106);
+    Column {
+        n: state[2],
+        m: state[3],
+        own: state[4],
+        bytes: bytes,
+        proposal: reading::word(state[10], state[11]),
+        stage: stage,
+        agreements: agreements,
+        reports: reports,
+        grade: state[7],
+        vote: state[8],
+        firm: state[9] == 1,
+        kept: kept,
+    }
+}
+
 // The column that bytes are read as. Where they are no state it is some column, which nobody should use.
 pub fn decode(state: &[u8]) -> Column
     ensures { λ r. ⌜ r ≡ decodeOf (now (state .entry)) ⌝ }
 {
-    let stage = reading::stage(messages::byte(state, 5), messages::byte(state, 6));
-    let bytes = reading::bytes(state, 12);
-    let agreements = reading::flags(state, 44);
-    let reports = reading::flags(state, 75);
-    let kept = reading::words(state, 106);
-    Column {
-        n: messages::byte(state, 2),
-        m: messages::byte(state, 3),
-        own: messages::byte(state, 4),
-        bytes: bytes,
-        proposal: messages::word(state, 10),
-        stage: stage,
-        agreements: agreements,
-        reports: reports,
-        grade: messages::byte(state, 7),
-        vote: messages::byte(state, 8),
-        firm: messages::byte(state, 9) == 1,
-        kept: kept,
-    }
+    let whole = reading::whole(state);
+    column(whole)
 }
 
 // Whether bytes are a state of a column that runs a protocol.

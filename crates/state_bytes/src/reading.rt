@@ -4,7 +4,8 @@ use agreement::Outcome;
 use agreement::Stage;
 use sizes::Protocol;
 ghost use mathlib.Core.Path.{_≡_};
-ghost use Prim.Native.Nat.{_≤_};
+ghost use Prim.Native.Nat.{_+_, _*_, _≤_};
+ghost use lib.ListN.{getD};
 ghost use Rattle.lists.specs.Lists.{all, listOf};
 ghost use Rattle.state_bytes.specs.Layout.{stageOf, byteFrom, flagFrom, wordFrom, isStage, isFlag as isFlagOf, areNumbers};
 
@@ -21,6 +22,19 @@ pub(super) fn stage(stage: u8, round: u8) -> Stage
         return Stage::Ended(Outcome::Nothing);
     }
     Stage::Ended(Outcome::Record)
+}
+
+// The first 170 bytes, with zeros past the end: what is read of them needs no test of the length.
+pub(super) fn whole(state: &[u8]) -> [u8; 170]
+    ensures { λ r. ⌜ r ≡ listOf (λ i. getD (now (state .entry)) i 0) 170 ⌝ }
+{
+    let mut all = [0u8; 170];
+    if state.len() < 170 {
+        messages::put(state, &mut all);
+        return all;
+    }
+    messages::put(&state[..170], &mut all);
+    all
 }
 
 pub(super) fn bytes(state: &[u8], at: usize) -> [u8; 32]
@@ -45,13 +59,21 @@ pub(super) fn flags(state: &[u8], at: usize) -> [bool; 31]
     flags
 }
 
-pub(super) fn words(state: &[u8], at: usize) -> [u16; 32]
+// A number of 16 bits.
+pub(super) fn word(low: u8, high: u8) -> u16
+    ensures { λ r. ⌜ r ≡ low + 256 * high ⌝ }
+{
+    low as u16 + 256 * (high as u16)
+}
+
+pub(super) fn words(state: [u8; 170], at: usize) -> [u16; 32]
     requires { ⌜ at ≤ 106 ⌝ }
-    ensures { λ r. ⌜ r ≡ listOf (wordFrom (now (state .entry)) at) 32 ⌝ }
+    ensures { λ r. ⌜ r ≡ listOf (wordFrom state at) 32 ⌝ }
 {
     let mut words = [0u16; 32];
     for i in 0..32 {
-        words[i] = messages::word(state, at + 2 * i);
+        let p = at + 2 * i;
+        words[i] = word(state[p], state[p + 1]);
     }
     words
 }
@@ -96,10 +118,9 @@ pub(super) fn are_flags(state: &[u8], at: usize) -> bool
     requires { ⌜ at ≤ 106 ⌝ }
     ensures { λ r. ⌜ r ≡ all (isFlagOf (now (state .entry)) at) 62 ⌝ }
 {
+    let mut all = true;
     for i in 0..62 {
-        if !is_flag(state, at, i) {
-            return false;
-        }
+        all = all & is_flag(state, at, i);
     }
-    true
+    all
 }

@@ -81,8 +81,10 @@ fn point_bytes(kept: [u16; 32]) -> [u8; 64]
     ensures { λ r. ⌜ r ≡ listOf (pointByte kept) 64 ⌝ }
 {
     let mut bytes = [0u8; 64];
-    for q in 0..64 {
-        bytes[q] = half(kept[q / 2], q);
+    for i in 0..32 {
+        let q = 2 * i;
+        bytes[q] = half(kept[i], 0);
+        bytes[q + 1] = half(kept[i], 1);
     }
     bytes
 }

@@ -1,2 +1,3 @@
 -- What is delivered to a column in one round of a wall.
 pub mod Delivery
+pub mod Places

@@ -2,12 +2,14 @@
 // line.
 ghost use mathlib.Core.Path.{_≡_};
 ghost use mathlib.Core.List.{_++_};
-ghost use Prim.Native.Nat.{ℕ, _+_, _*_, _≤_, _<_};
+ghost use Prim.Native.Nat.{ℕ, _+_, _*_, _≤_};
+ghost use lib.Dec.{eqb};
 ghost use lib.ListN.{length, drop};
-ghost use Rattle.lists.specs.Lists.{listOf};
-ghost use Rattle.messages.specs.Messages.{refusal, unlessRefused};
-ghost use Rattle.sheet.specs.Sheet.{columns, unsoundTo, lineValue};
+ghost use Rattle.lists.specs.Lists.{bit, listOf};
+ghost use Rattle.messages.specs.Messages.{refusal, unlessRefused, word};
+ghost use Rattle.sheet.specs.Sheet.{columns, sound as soundOf, unsoundTo, arrays};
 ghost use Rattle.delivery.specs.Delivery.{mailed as mailedOf, sent as sentOf, inbox as inboxOf};
+ghost use Rattle.delivery.specs.Places.{place as placeOf};
 
 // A round: how many values a line has for each receiver, how many of them belong to earlier rounds, and the values of one message.
 pub struct Round {
@@ -25,70 +27,77 @@ fn mailed(n: u8, width: u16, mail: &[u16], to: u8, j: u8, k: u16) -> u16
     messages::value(mail, at)
 }
 
-// Value k of what an unsound column sends column `to` + 1; `earlier` of the columns before it are unsound.
-fn lied(sheet: &[u8], round: Round, to: u8, earlier: u8, k: u16) -> u16
-    ensures { λ r. ⌜ r ≡ lineValue (round .line) (now (sheet .entry)) earlier (to + 1) (round .offset + k) ⌝ }
-{
-    sheet::line_value(
-        sheet,
-        round.line,
-        earlier,
-        to,
-        round.offset as u32 + k as u32,
-    )
-}
-
-// Value k of what column j + 1 sends column `to` + 1; `earlier` of the columns before it are unsound.
-fn sent(sheet: &[u8], round: Round, mail: &[u16], to: u8, j: u8, earlier: u8, k: u16) -> u16
-    requires { ⌜ (j < 255) × (earlier ≡ unsoundTo (now sheet) j) ⌝ }
-    ensures { λ r. ⌜ r ≡ sentOf (now (sheet .entry)) round (now (mail .entry)) (to + 1) (j + 1) k ⌝ }
-{
-    if sheet::sound(sheet, j + 1) {
-        return mailed(sheet::columns(sheet), round.width, mail, to, j, k);
-    }
-    lied(sheet, round, to, earlier, k)
-}
-
-// What column j + 1 of n said to column `to` + 1, written to the front of a part of the inbox.
+// What column j + 1 of n said to column `to` + 1, written to the front of a part of the inbox. Most rounds have one value, and need no loop.
 fn copy_mail(n: u8, width: u16, mail: &[u16], to: u8, j: u8, part: &mut [u16])
     requires { ⌜ width ≤ length (now part) ⌝ }
     ensures { λ _. ⌜ now (part .exit) ≡ listOf (mailedOf n width (now (mail .entry)) (to + 1) (j + 1)) width ++ drop width (now (part .entry)) ⌝ }
 {
+    if width == 1 {
+        part[0] = mailed(n, width, mail, to, j, 0);
+        return;
+    }
     for k in 0..width {
         let at = k as usize;
         part[at] = mailed(n, width, mail, to, j, k);
     }
 }
 
-// The same of an unsound column.
-fn copy_line(sheet: &[u8], round: Round, to: u8, earlier: u8, part: &mut [u16])
-    requires { ⌜ round .width ≤ length (now part) ⌝ }
-    ensures { λ _. ⌜ now (part .exit) ≡ listOf (λ (k : ℕ). lineValue (round .line) (now (sheet .entry)) earlier (to + 1) (round .offset + k)) (round .width) ++ drop (round .width) (now (part .entry)) ⌝ }
+// The values that lie in the sheet from a place on.
+fn copy_line(sheet: &[u8], place: usize, width: u16, part: &mut [u16])
+    requires { ⌜ (place ≤ 17179869184) × (width ≤ length (now part)) ⌝ }
+    ensures { λ _. ⌜ now (part .exit) ≡ listOf (λ (k : ℕ). word (now (sheet .entry)) (place + 2 * k)) width ++ drop width (now (part .entry)) ⌝ }
 {
-    let width = round.width;
+    if width == 1 {
+        part[0] = messages::word(sheet, place);
+        return;
+    }
     for k in 0..width {
         let at = k as usize;
-        part[at] = lied(sheet, round, to, earlier, k);
+        part[at] = messages::word(sheet, place + 2 * at);
     }
 }
 
-// The message of column j + 1 to column `to` + 1. Whether the column is sound is asked once for all values; most rounds have one, and no loop.
-fn copy(sheet: &[u8], round: Round, mail: &[u16], to: u8, j: u8, earlier: u8, part: &mut [u16])
-    requires { ⌜ (j < 255) × (earlier ≡ unsoundTo (now sheet) j) × (round .width ≤ length (now part)) ⌝ }
+// The message of column j + 1, which is sound or has its values in the sheet from a place on.
+fn copy(
+    sheet: &[u8],
+    sound: bool,
+    place: usize,
+    round: Round,
+    mail: &[u16],
+    to: u8,
+    j: u8,
+    part: &mut [u16],
+)
+    requires { ⌜ (sound ≡ soundOf (now sheet) (j + 1)) × (place ≡ placeOf (now sheet) round to (unsoundTo (now sheet) j)) × (place ≤ 17179869184) × (round .width ≤ length (now part)) ⌝ }
     ensures { λ _. ⌜ now (part .exit) ≡ listOf (sentOf (now (sheet .entry)) round (now (mail .entry)) (to + 1) (j + 1)) (round .width) ++ drop (round .width) (now (part .entry)) ⌝ }
 {
-    if round.width == 1 {
-        part[0] = sent(sheet, round, mail, to, j, earlier, 0);
-        return;
-    }
-    if sheet::sound(sheet, j + 1) {
+    if sound {
         copy_mail(sheet::columns(sheet), round.width, mail, to, j, part);
         return;
     }
-    copy_line(sheet, round, to, earlier, part);
+    copy_line(sheet, place, round.width, part);
 }
 
-// What column `to` + 1 gets in the round, one message from each column; 4 for an inbox of another length.
+// Where the first unsound column's values for column `to` + 1 begin, in a sheet of n columns and m bytes: the lines follow n records.
+fn first_place(n: u8, m: u8, round: Round, to: u8) -> usize
+    ensures { λ r. ⌜ r ≡ arrays n m + 2 * (to * (round .line) + round .offset) ⌝ }
+{
+    sheet::record_place(n, m, n) + 2 * messages::place(to, round.line, round.offset)
+}
+
+// Where those of the next begin, after a column with this mark.
+fn next_place(place: usize, step: usize, mark: u8) -> usize
+    requires { ⌜ (place ≤ 17179869184) × (step ≤ 17179869184) ⌝ }
+    ensures { λ r. ⌜ r ≡ place + bit (eqb mark 1) * step ⌝ }
+{
+    if mark == 1 {
+        return place + step;
+    }
+    place
+}
+
+// What column `to` + 1 gets in the round, one message from each column; 4 for an inbox of another length. The marks are read once, and the
+// place in the sheet is carried along.
 pub fn deliver(sheet: &[u8], round: Round, mail: &[u16], to: u8, inbox: &mut [u16]) -> u8
     ensures { λ r. ⌜ (r ≡ refusal 0 (columns (now (sheet .entry))) (round .width) (length (now (inbox .entry))))
         × (now (inbox .exit) ≡ unlessRefused (refusal 0 (columns (now (sheet .entry))) (round .width) (length (now (inbox .entry)))) (inboxOf (now (sheet .entry)) round (now (mail .entry)) (to + 1)) (now (inbox .entry))) ⌝ }
@@ -99,11 +108,22 @@ pub fn deliver(sheet: &[u8], round: Round, mail: &[u16], to: u8, inbox: &mut [u1
     if why != 0 {
         return why;
     }
-    let mut earlier = 0u8;
+    let step = 2 * messages::place(n, round.line, 0);
+    let mut place = first_place(n, sheet::bytes(sheet), round, to);
     for j in 0..n {
         let at = messages::place(j, width, 0);
-        copy(sheet, round, mail, to, j, earlier, &mut inbox[at..]);
-        earlier += sheet::one_if_unsound(sheet, j + 1);
+        let mark = sheet::mark(sheet, j + 1);
+        copy(
+            sheet,
+            mark == 0,
+            place,
+            round,
+            mail,
+            to,
+            j,
+            &mut inbox[at..],
+        );
+        place = next_place(place, step, mark);
     }
     0
 }

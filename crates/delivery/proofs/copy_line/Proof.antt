@@ -1,46 +1,69 @@
 -- `copy_line` meets its contract.
-use Prim.Native.Nat.{ℕ, _+_, _-_}
+use borrow.Author.Needs.{needs}
+use mathlib.Core.Path.{_≡_, ap, _∙_}
+use Prim.Native.Nat.{ℕ, _+_, _-_, _*_}
 use native.Mathlib.Omega.{arith}
 use Rattle.lists.specs.Loops.{Filled, filled-none, filled-more, filled-part}
-use Rattle.sheet.specs.Sheet.{lineValue}
+use Rattle.messages.specs.Messages.{word}
 use Rattle.delivery.proofs.copy_line.Statement.{statement}
 use Rattle.delivery.proofs.copy_line.Tie as tie
 
 abbrev Inv-loop : tie.InvT-loop
-Inv-loop sheet round to earlier part₀ width k₀ part k = Filled (λ (q : ℕ). lineValue (round .line) sheet earlier (to + 1) (round .offset + q)) width part₀ part k
+Inv-loop sheet place width part₀ k₀ part k = Filled (λ (i : ℕ). word sheet (place + 2 * i)) width part₀ part k
 
 abbrev μ-loop : tie.MeasureT-loop
-μ-loop sheet round to earlier part₀ width k₀ part k = width - k
+μ-loop sheet place width part₀ k₀ part k = width - k
 
-loop-holds : tie.Need-loop-holds Inv-loop μ-loop
-loop-holds c = filled-none _ _ _ (c .before .before .pre)
-
-cast-at : tie.Need-cast-at Inv-loop μ-loop
-cast-at c = omega arith
-
-lied-requires : tie.Need-lied-requires Inv-loop μ-loop
-lied-requires c κs = tt
-
-mul-part : tie.Need-mul-part Inv-loop μ-loop
-mul-part c = omega (arith, c .before .before .loop .inv .size, c .before .before .loop .inv .same, c .before .before .before .before .before .good)
+word-requires : tie.Need-word-requires Inv-loop μ-loop
+word-requires c κs = search needs
 
 slice-write-part : tie.Need-slice-write-part Inv-loop μ-loop
-slice-write-part c = omega (arith, c .before .before .loop .inv .size, c .before .before .loop .inv .same)
-
-add-k : tie.Need-add-k Inv-loop μ-loop
-add-k c = omega arith
-
-loop-less : tie.Need-loop-less Inv-loop μ-loop
-loop-less c = omega arith
-
-loop-again : tie.Need-loop-again Inv-loop μ-loop
-loop-again c = filled-more _ _ _ _ _ _ (c .before .before .loop .inv) (omega arith) (c .lied .ensures)
+slice-write-part c = search needs
 
 same-length : tie.Need-same-length Inv-loop μ-loop
-same-length c = c .before .loop .inv .same
+same-length c = search needs
 
 returns : tie.Need-returns Inv-loop μ-loop
-returns c = filled-part _ _ _ _ _ (c .before .loop .inv) (omega arith)
+returns c =
+    let one = c .before .if1 .taken in
+    let room = c .before .before .before .before .pre .1 in
+    filled-part _ _ _ _ 1 (filled-more _ _ _ _ 0 _ (filled-none _ _ _ room) (omega (arith, one)) (c .word .ensures ∙ ap (word _) (omega arith))) (omega (arith, one))
+
+loop-holds : tie.Need-loop-holds Inv-loop μ-loop
+loop-holds c = filled-none _ _ _ (c .before .before .before .pre .1)
+
+cast-at : tie.Need-cast-at Inv-loop μ-loop
+cast-at c = search needs
+
+mul-word : tie.Need-mul-word Inv-loop μ-loop
+mul-word c = search needs
+
+add-word : tie.Need-add-word Inv-loop μ-loop
+add-word c = search needs
+
+word-requires-2 : tie.Need-word-requires-2 Inv-loop μ-loop
+word-requires-2 c κs = search needs
+
+mul-part : tie.Need-mul-part Inv-loop μ-loop
+mul-part c = omega (arith, c .before .before .loop .inv .size, c .before .before .loop .inv .same, c .before .before .before .before .before .before .good)
+
+slice-write-part-2 : tie.Need-slice-write-part-2 Inv-loop μ-loop
+slice-write-part-2 c = omega (arith, c .before .before .loop .inv .size, c .before .before .loop .inv .same)
+
+add-k : tie.Need-add-k Inv-loop μ-loop
+add-k c = search needs
+
+loop-less : tie.Need-loop-less Inv-loop μ-loop
+loop-less c = search needs
+
+loop-again : tie.Need-loop-again Inv-loop μ-loop
+loop-again c = filled-more _ _ _ _ _ _ (c .before .before .loop .inv) (omega arith) (c .word2 .ensures ∙ ap (word _) (omega arith))
+
+same-length-2 : tie.Need-same-length-2 Inv-loop μ-loop
+same-length-2 c = c .before .loop .inv .same
+
+returns-2 : tie.Need-returns-2 Inv-loop μ-loop
+returns-2 c = filled-part _ _ _ _ _ (c .before .loop .inv) (omega arith)
 
 pub copy-line-spec : {M : Type 1} → statement M
 copy-line-spec =
@@ -48,13 +71,19 @@ copy-line-spec =
     (tie.spec
     Inv-loop
     μ-loop
+    word-requires
+    slice-write-part
+    same-length
+    returns
     loop-holds
     cast-at
-    lied-requires
+    mul-word
+    add-word
+    word-requires-2
     mul-part
-    slice-write-part
+    slice-write-part-2
     add-k
     loop-less
     loop-again
-    same-length
-    returns)
+    same-length-2
+    returns-2)

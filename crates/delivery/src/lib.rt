@@ -27,15 +27,11 @@ fn mailed(n: u8, width: u16, mail: &[u16], to: u8, j: u8, k: u16) -> u16
     messages::value(mail, at)
 }
 
-// What column j + 1 of n said to column `to` + 1, written to the front of a part of the inbox. Most rounds have one value, and need no loop.
+// What column j + 1 of n said to column `to` + 1, written to the front of a part of the inbox.
 fn copy_mail(n: u8, width: u16, mail: &[u16], to: u8, j: u8, part: &mut [u16])
     requires { ⌜ width ≤ length (now part) ⌝ }
     ensures { λ _. ⌜ now (part .exit) ≡ listOf (mailedOf n width (now (mail .entry)) (to + 1) (j + 1)) width ++ drop width (now (part .entry)) ⌝ }
 {
-    if width == 1 {
-        part[0] = mailed(n, width, mail, to, j, 0);
-        return;
-    }
     for k in 0..width {
         let at = k as usize;
         part[at] = mailed(n, width, mail, to, j, k);
@@ -47,10 +43,6 @@ fn copy_line(sheet: &[u8], place: usize, width: u16, part: &mut [u16])
     requires { ⌜ (place ≤ 17179869184) × (width ≤ length (now part)) ⌝ }
     ensures { λ _. ⌜ now (part .exit) ≡ listOf (λ (k : ℕ). word (now (sheet .entry)) (place + 2 * k)) width ++ drop width (now (part .entry)) ⌝ }
 {
-    if width == 1 {
-        part[0] = messages::word(sheet, place);
-        return;
-    }
     for k in 0..width {
         let at = k as usize;
         part[at] = messages::word(sheet, place + 2 * at);
@@ -96,22 +88,16 @@ fn next_place(place: usize, step: usize, mark: u8) -> usize
     place
 }
 
-// What column `to` + 1 gets in the round, one message from each column; 4 for an inbox of another length. The marks are read once, and the
-// place in the sheet is carried along.
-pub fn deliver(sheet: &[u8], round: Round, mail: &[u16], to: u8, inbox: &mut [u16]) -> u8
-    ensures { λ r. ⌜ (r ≡ refusal 0 (columns (now (sheet .entry))) (round .width) (length (now (inbox .entry))))
-        × (now (inbox .exit) ≡ unlessRefused (refusal 0 (columns (now (sheet .entry))) (round .width) (length (now (inbox .entry)))) (inboxOf (now (sheet .entry)) round (now (mail .entry)) (to + 1)) (now (inbox .entry))) ⌝ }
+// What column `to` + 1 gets in the round, one message from each column. The marks are read once, and the place in the sheet is carried along.
+fn deliver_messages(sheet: &[u8], round: Round, mail: &[u16], to: u8, inbox: &mut [u16])
+    requires { ⌜ columns (now sheet) * (round .width) ≡ length (now inbox) ⌝ }
+    ensures { λ _. ⌜ now (inbox .exit) ≡ inboxOf (now (sheet .entry)) round (now (mail .entry)) (to + 1) ⌝ }
 {
     let n = sheet::columns(sheet);
-    let width = round.width;
-    let why = messages::refusal(0, n, width, inbox.len());
-    if why != 0 {
-        return why;
-    }
     let step = 2 * messages::place(n, round.line, 0);
     let mut place = first_place(n, sheet::bytes(sheet), round, to);
     for j in 0..n {
-        let at = messages::place(j, width, 0);
+        let at = messages::place(j, round.width, 0);
         let mark = sheet::mark(sheet, j + 1);
         copy(
             sheet,
@@ -125,5 +111,57 @@ pub fn deliver(sheet: &[u8], round: Round, mail: &[u16], to: u8, inbox: &mut [u1
         );
         place = next_place(place, step, mark);
     }
+}
+
+// The one value of column j + 1, which is sound or has it at a place in the sheet.
+fn word_from(
+    sheet: &[u8],
+    sound: bool,
+    place: usize,
+    round: Round,
+    n: u8,
+    mail: &[u16],
+    to: u8,
+    j: u8,
+) -> u16
+    requires { ⌜ (round .width ≡ 1) × (n ≡ columns (now sheet)) × (sound ≡ soundOf (now sheet) (j + 1)) × (place ≡ placeOf (now sheet) round to (unsoundTo (now sheet) j)) ⌝ }
+    ensures { λ r. ⌜ r ≡ sentOf (now (sheet .entry)) round (now (mail .entry)) (to + 1) (j + 1) 0 ⌝ }
+{
+    if sound {
+        return mailed(n, 1, mail, to, j, 0);
+    }
+    messages::word(sheet, place)
+}
+
+// The same where a message is one value, as in most rounds.
+fn deliver_words(sheet: &[u8], round: Round, mail: &[u16], to: u8, inbox: &mut [u16])
+    requires { ⌜ (round .width ≡ 1) × (columns (now sheet) ≡ length (now inbox)) ⌝ }
+    ensures { λ _. ⌜ now (inbox .exit) ≡ inboxOf (now (sheet .entry)) round (now (mail .entry)) (to + 1) ⌝ }
+{
+    let n = sheet::columns(sheet);
+    let step = 2 * messages::place(n, round.line, 0);
+    let mut place = first_place(n, sheet::bytes(sheet), round, to);
+    for j in 0..n {
+        let at = j as usize;
+        let mark = sheet::mark(sheet, j + 1);
+        inbox[at] = word_from(sheet, mark == 0, place, round, n, mail, to, j);
+        place = next_place(place, step, mark);
+    }
+}
+
+// What column `to` + 1 gets in the round, one message from each column; 4 for an inbox of another length.
+pub fn deliver(sheet: &[u8], round: Round, mail: &[u16], to: u8, inbox: &mut [u16]) -> u8
+    ensures { λ r. ⌜ (r ≡ refusal 0 (columns (now (sheet .entry))) (round .width) (length (now (inbox .entry))))
+        × (now (inbox .exit) ≡ unlessRefused (refusal 0 (columns (now (sheet .entry))) (round .width) (length (now (inbox .entry)))) (inboxOf (now (sheet .entry)) round (now (mail .entry)) (to + 1)) (now (inbox .entry))) ⌝ }
+{
+    let why = messages::refusal(0, sheet::columns(sheet), round.width, inbox.len());
+    if why != 0 {
+        return why;
+    }
+    if round.width == 1 {
+        deliver_words(sheet, round, mail, to, inbox);
+        return 0;
+    }
+    deliver_messages(sheet, round, mail, to, inbox);
     0
 }

@@ -6,7 +6,6 @@ use Prim.Native.Nat.{ℕ, _+_, _-_}
 use native.Mathlib.Omega.{arith}
 use lib.ListN.{drop}
 use Rattle.lists.specs.Entries.{listOf-same}
-use Rattle.sheet.specs.Sheet.{lineValue}
 use Rattle.delivery.specs.Delivery.{lied, sent}
 use Rattle.delivery.specs.Places.{place-value}
 use Rattle.delivery.proofs.copy.Statement.{statement}

@@ -1,6 +1,6 @@
 -- `copy_line` meets its contract.
 use borrow.Author.Needs.{needs}
-use mathlib.Core.Path.{_≡_, ap, _∙_}
+use mathlib.Core.Path.{ap, _∙_}
 use Prim.Native.Nat.{ℕ, _+_, _-_, _*_}
 use native.Mathlib.Omega.{arith}
 use Rattle.lists.specs.Loops.{Filled, filled-none, filled-more, filled-part}
@@ -14,23 +14,8 @@ Inv-loop sheet place width part₀ k₀ part k = Filled (λ (i : ℕ). word shee
 abbrev μ-loop : tie.MeasureT-loop
 μ-loop sheet place width part₀ k₀ part k = width - k
 
-word-requires : tie.Need-word-requires Inv-loop μ-loop
-word-requires c κs = search needs
-
-slice-write-part : tie.Need-slice-write-part Inv-loop μ-loop
-slice-write-part c = search needs
-
-same-length : tie.Need-same-length Inv-loop μ-loop
-same-length c = search needs
-
-returns : tie.Need-returns Inv-loop μ-loop
-returns c =
-    let one = c .before .if1 .taken in
-    let room = c .before .before .before .before .pre .1 in
-    filled-part _ _ _ _ 1 (filled-more _ _ _ _ 0 _ (filled-none _ _ _ room) (omega (arith, one)) (c .word .ensures ∙ ap (word _) (omega arith))) (omega (arith, one))
-
 loop-holds : tie.Need-loop-holds Inv-loop μ-loop
-loop-holds c = filled-none _ _ _ (c .before .before .before .pre .1)
+loop-holds c = filled-none _ _ _ (c .before .before .pre .1)
 
 cast-at : tie.Need-cast-at Inv-loop μ-loop
 cast-at c = search needs
@@ -41,14 +26,14 @@ mul-word c = search needs
 add-word : tie.Need-add-word Inv-loop μ-loop
 add-word c = search needs
 
-word-requires-2 : tie.Need-word-requires-2 Inv-loop μ-loop
-word-requires-2 c κs = search needs
+word-requires : tie.Need-word-requires Inv-loop μ-loop
+word-requires c κs = search needs
 
 mul-part : tie.Need-mul-part Inv-loop μ-loop
-mul-part c = omega (arith, c .before .before .loop .inv .size, c .before .before .loop .inv .same, c .before .before .before .before .before .before .good)
+mul-part c = omega (arith, c .before .before .loop .inv .size, c .before .before .loop .inv .same, c .before .before .before .before .before .good)
 
-slice-write-part-2 : tie.Need-slice-write-part-2 Inv-loop μ-loop
-slice-write-part-2 c = omega (arith, c .before .before .loop .inv .size, c .before .before .loop .inv .same)
+slice-write-part : tie.Need-slice-write-part Inv-loop μ-loop
+slice-write-part c = omega (arith, c .before .before .loop .inv .size, c .before .before .loop .inv .same)
 
 add-k : tie.Need-add-k Inv-loop μ-loop
 add-k c = search needs
@@ -57,13 +42,13 @@ loop-less : tie.Need-loop-less Inv-loop μ-loop
 loop-less c = search needs
 
 loop-again : tie.Need-loop-again Inv-loop μ-loop
-loop-again c = filled-more _ _ _ _ _ _ (c .before .before .loop .inv) (omega arith) (c .word2 .ensures ∙ ap (word _) (omega arith))
+loop-again c = filled-more _ _ _ _ _ _ (c .before .before .loop .inv) (omega arith) (c .word .ensures ∙ ap (word _) (omega arith))
 
-same-length-2 : tie.Need-same-length-2 Inv-loop μ-loop
-same-length-2 c = c .before .loop .inv .same
+same-length : tie.Need-same-length Inv-loop μ-loop
+same-length c = c .before .loop .inv .same
 
-returns-2 : tie.Need-returns-2 Inv-loop μ-loop
-returns-2 c = filled-part _ _ _ _ _ (c .before .loop .inv) (omega arith)
+returns : tie.Need-returns Inv-loop μ-loop
+returns c = filled-part _ _ _ _ _ (c .before .loop .inv) (omega arith)
 
 pub copy-line-spec : {M : Type 1} → statement M
 copy-line-spec =
@@ -71,19 +56,15 @@ copy-line-spec =
     (tie.spec
     Inv-loop
     μ-loop
-    word-requires
-    slice-write-part
-    same-length
-    returns
     loop-holds
     cast-at
     mul-word
     add-word
-    word-requires-2
+    word-requires
     mul-part
-    slice-write-part-2
+    slice-write-part
     add-k
     loop-less
     loop-again
-    same-length-2
-    returns-2)
+    same-length
+    returns)

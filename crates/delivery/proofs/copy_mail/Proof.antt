@@ -13,35 +13,20 @@ Inv-loop n width mail to j part₀ k₀ part k = Filled (mailed n width mail (to
 abbrev μ-loop : tie.MeasureT-loop
 μ-loop n width mail to j part₀ k₀ part k = width - k
 
-mailed-requires : tie.Need-mailed-requires Inv-loop μ-loop
-mailed-requires c κs = search needs
-
-slice-write-part : tie.Need-slice-write-part Inv-loop μ-loop
-slice-write-part c = search needs
-
-same-length : tie.Need-same-length Inv-loop μ-loop
-same-length c = search needs
-
-returns : tie.Need-returns Inv-loop μ-loop
-returns c =
-    let one = c .before .if1 .taken in
-    let room = c .before .before .before .before .pre in
-    filled-part _ _ _ _ 1 (filled-more _ _ _ _ 0 _ (filled-none _ _ _ room) (omega (arith, one)) (c .mailed .ensures)) (omega (arith, one))
-
 loop-holds : tie.Need-loop-holds Inv-loop μ-loop
-loop-holds c = filled-none _ _ _ (c .before .before .before .pre)
+loop-holds c = filled-none _ _ _ (c .before .before .pre)
 
 cast-at : tie.Need-cast-at Inv-loop μ-loop
 cast-at c = search needs
 
-mailed-requires-2 : tie.Need-mailed-requires-2 Inv-loop μ-loop
-mailed-requires-2 c κs = search needs
+mailed-requires : tie.Need-mailed-requires Inv-loop μ-loop
+mailed-requires c κs = search needs
 
 mul-part : tie.Need-mul-part Inv-loop μ-loop
-mul-part c = omega (arith, c .before .before .loop .inv .size, c .before .before .loop .inv .same, c .before .before .before .before .before .before .good)
+mul-part c = omega (arith, c .before .before .loop .inv .size, c .before .before .loop .inv .same, c .before .before .before .before .before .good)
 
-slice-write-part-2 : tie.Need-slice-write-part-2 Inv-loop μ-loop
-slice-write-part-2 c = omega (arith, c .before .before .loop .inv .size, c .before .before .loop .inv .same)
+slice-write-part : tie.Need-slice-write-part Inv-loop μ-loop
+slice-write-part c = omega (arith, c .before .before .loop .inv .size, c .before .before .loop .inv .same)
 
 add-k : tie.Need-add-k Inv-loop μ-loop
 add-k c = search needs
@@ -50,13 +35,13 @@ loop-less : tie.Need-loop-less Inv-loop μ-loop
 loop-less c = search needs
 
 loop-again : tie.Need-loop-again Inv-loop μ-loop
-loop-again c = filled-more _ _ _ _ _ _ (c .before .before .loop .inv) (omega arith) (c .mailed2 .ensures)
+loop-again c = filled-more _ _ _ _ _ _ (c .before .before .loop .inv) (omega arith) (c .mailed .ensures)
 
-same-length-2 : tie.Need-same-length-2 Inv-loop μ-loop
-same-length-2 c = c .before .loop .inv .same
+same-length : tie.Need-same-length Inv-loop μ-loop
+same-length c = c .before .loop .inv .same
 
-returns-2 : tie.Need-returns-2 Inv-loop μ-loop
-returns-2 c = filled-part _ _ _ _ _ (c .before .loop .inv) (omega arith)
+returns : tie.Need-returns Inv-loop μ-loop
+returns c = filled-part _ _ _ _ _ (c .before .loop .inv) (omega arith)
 
 pub copy-mail-spec : {M : Type 1} → statement M
 copy-mail-spec =
@@ -64,17 +49,13 @@ copy-mail-spec =
     (tie.spec
     Inv-loop
     μ-loop
-    mailed-requires
-    slice-write-part
-    same-length
-    returns
     loop-holds
     cast-at
-    mailed-requires-2
+    mailed-requires
     mul-part
-    slice-write-part-2
+    slice-write-part
     add-k
     loop-less
     loop-again
-    same-length-2
-    returns-2)
+    same-length
+    returns)

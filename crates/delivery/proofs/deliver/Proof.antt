@@ -1,138 +1,65 @@
 -- `deliver` meets its contract.
 use borrow.Author.Needs.{needs}
-use mathlib.Core.Path.{_≡_, refl, sym, ap, _∙_}
-use Prim.Native.Nat.{ℕ, _+_, _-_, _*_, _≤_}
-use native.Mathlib.Nat.{mul-le-mul}
+use mathlib.Core.Path.{sym, ap, _∙_}
+use Prim.Native.Nat.{ℕ, _*_}
 use native.Mathlib.Omega.{arith}
-use lib.Dec.{eqb}
 use lib.ListN.{length}
-use Rattle.lists.specs.Lists.{bit, rowsOf}
-use Rattle.lists.specs.Loops.{Rowed, rowed-none, rowed-fits, rowed-more, rowed-room, rowed-done}
 use Rattle.messages.specs.Messages.{refusal}
 use Rattle.messages.specs.Laws.{accepted, if-refused, if-done}
-use Rattle.sheet.specs.Sheet.{columns, bytes, mark, unsoundTo, arrays}
-use Rattle.delivery.specs.Delivery.{sent, inbox}
-use Rattle.delivery.specs.Places.{place, place-first, place-next, place-le, sound-mark}
 use Rattle.delivery.proofs.deliver.Statement.{statement}
 use Rattle.delivery.proofs.deliver.Tie as tie
 
-abbrev Inv-loop : tie.InvT-loop
-Inv-loop sheet round mail to inbox₀ n width why step place₀ j₀ inbox place' j = Rowed (sent sheet round mail (to + 1)) width n inbox₀ inbox j × (place' ≡ place sheet round to (unsoundTo sheet j)) × (place' ≤ 17179869184)
-
-abbrev μ-loop : tie.MeasureT-loop
-μ-loop sheet round mail to inbox₀ n width why step place₀ j₀ inbox place' j = n - j
-
-columns-requires : tie.Need-columns-requires Inv-loop μ-loop
+columns-requires : tie.Need-columns-requires
 columns-requires c κs = search needs
 
-refusal-requires : tie.Need-refusal-requires Inv-loop μ-loop
+refusal-requires : tie.Need-refusal-requires
 refusal-requires c κs = search needs
 
-returns : tie.Need-returns Inv-loop μ-loop
+returns : tie.Need-returns
 returns c =
-    let e = c .before .refusal .ensures ∙ ap (λ (n : ℕ). refusal 0 n (c .before .before .before .before .before .before .args .round .width) (length (c .before .before .before .before .before .before .args .inbox .now))) (c .before .before .columns .ensures) in
+    let a = c .before .before .before .before .before .before .args in
+    let e = c .before .refusal .ensures ∙ ap (λ (n : ℕ). refusal 0 n (a .round .width) (length (a .inbox .now))) (c .before .before .columns .ensures) in
     (e, sym (if-refused _ _ _ (λ z. c .if1 .taken (e ∙ z))))
 
-place-requires : tie.Need-place-requires Inv-loop μ-loop
-place-requires c κs = search needs
+deliver-words-requires : tie.Need-deliver-words-requires
+deliver-words-requires c κs =
+    let long = accepted _ _ _ _ (sym (c .before .before .before .before .refusal .ensures) ∙ c .before .before .before .if1 .left) .1 in
+    (c .before .if2 .taken, omega (arith, rw (c .before .if2 .taken) at long, c .before .before .before .before .before .columns .ensures))
 
-mul-step : tie.Need-mul-step Inv-loop μ-loop
-mul-step c = omega (arith, c .place .ensures, mul-le-mul {n₁ = c .before .before .before .columns .result} {m₁ = c .before .before .before .before .before .before .before .args .round .line} {n₂ = 255} {m₂ = 65535} (omega arith) (omega arith))
+same-length : tie.Need-same-length
+same-length c = search needs
 
-bytes-requires : tie.Need-bytes-requires Inv-loop μ-loop
-bytes-requires c κs = search needs
-
-first-place-requires : tie.Need-first-place-requires Inv-loop μ-loop
-first-place-requires c κs = search needs
-
-loop-holds : tie.Need-loop-holds Inv-loop μ-loop
-loop-holds c =
-    let s = c .before .before .before .before .before .before .before .before .before in
-    let n = c .before .before .before .before .before .columns in
-    let first : c .first-place .result ≡ place (s .args .sheet .now) (s .args .round) (s .args .to) (unsoundTo (s .args .sheet .now) 0) = rw (place-first, c .first-place .ensures, c .before .bytes .ensures, n .ensures) refl in
-    (rowed-none _ _ _ _ (sym (accepted _ _ _ _ (sym (c .before .before .before .before .refusal .ensures) ∙ c .before .before .before .if1 .left) .1)), first, rw first (place-le _ _ _ 0 (omega (arith, n .ensures)) (omega (arith, c .before .bytes .ensures)) (omega arith) (omega arith) (omega arith) (omega arith)))
-
-place-requires-2 : tie.Need-place-requires-2 Inv-loop μ-loop
-place-requires-2 c κs = search needs
-
-add-mark : tie.Need-add-mark Inv-loop μ-loop
-add-mark c = search needs
-
-mark-requires : tie.Need-mark-requires Inv-loop μ-loop
-mark-requires c κs = search needs
-
-mul-copy : tie.Need-mul-copy Inv-loop μ-loop
-mul-copy c = omega (arith, c .before .place2 .ensures, rowed-fits _ _ _ _ _ _ (c .before .before .before .loop .inv .0) (omega arith), c .before .before .before .before .before .before .before .before .before .before .before .before .before .good)
-
-sub-copy : tie.Need-sub-copy Inv-loop μ-loop
-sub-copy c = omega (arith, c .before .place2 .ensures, rowed-fits _ _ _ _ _ _ (c .before .before .before .loop .inv .0) (omega arith))
-
-part-copy-start : tie.Need-part-copy-start Inv-loop μ-loop
-part-copy-start c = omega (arith, c .before .place2 .ensures, rowed-fits _ _ _ _ _ _ (c .before .before .before .loop .inv .0) (omega arith))
-
-part-copy-end : tie.Need-part-copy-end Inv-loop μ-loop
-part-copy-end c = omega arith
-
-copy-requires : tie.Need-copy-requires Inv-loop μ-loop
-copy-requires c κs =
-    let l = c .before .before .before .before .loop in
-    let n = c .before .before .before .before .before .before .before .before .before .before .columns in
-    (ap (λ (v : ℕ). eqb v 0) (c .before .mark .ensures) ∙ sound-mark _ _ (omega (arith, n .ensures)), l .inv .1, l .inv .2, rowed-room _ _ _ _ _ _ _ (l .inv .0) (omega arith) (omega (arith, c .before .before .place2 .ensures)))
-
-next-place-requires : tie.Need-next-place-requires Inv-loop μ-loop
-next-place-requires c κs = (c .before .before .before .before .before .before .before .loop .inv .2, omega (arith, c .before .before .before .before .before .before .before .before .before .before .place .ensures, mul-le-mul {n₁ = c .before .before .before .before .before .before .before .before .before .before .before .before .before .columns .result} {m₁ = c .before .before .before .before .before .before .before .before .before .before .before .before .before .before .before .before .before .args .round .line} {n₂ = 255} {m₂ = 65535} (omega arith) (omega arith)))
-
-add-j : tie.Need-add-j Inv-loop μ-loop
-add-j c = search needs
-
-loop-less : tie.Need-loop-less Inv-loop μ-loop
-loop-less c = search needs
-
-loop-again : tie.Need-loop-again Inv-loop μ-loop
-loop-again c =
-    let s = c .before .before .before .before .before .before .before .before .before .before .before .before .before .before .before .before .before .before in
-    let n = c .before .before .before .before .before .before .before .before .before .before .before .before .before .before .columns in
-    let l = c .before .before .before .before .before .before .before .before .loop in
-    let lines : c .before .before .before .before .before .before .before .before .before .before .before .place .result ≡ n .result * (s .args .round .line) = omega (arith, c .before .before .before .before .before .before .before .before .before .before .before .place .ensures) in
-    let next : c .next-place .result ≡ place (s .args .sheet .now) (s .args .round) (s .args .to) (unsoundTo (s .args .sheet .now) (l .j + 1)) = c .next-place .ensures ∙ rw (l .inv .1, c .before .before .before .before .before .mark .ensures, lines, n .ensures) (place-next _ _ _ _) in
-    (rowed-more _ _ _ _ _ _ _ _ (l .inv .0) (omega arith) (omega (arith, c .before .before .before .before .before .before .place2 .ensures)) (c .before .before .before .copy .ensures), next, rw next (place-le _ _ _ _ (omega (arith, n .ensures)) (omega (arith, c .before .before .before .before .before .before .before .before .before .before .bytes .ensures)) (omega arith) (omega arith) (omega arith) (omega arith)))
-
-same-length : tie.Need-same-length Inv-loop μ-loop
-same-length c = c .before .loop .inv .0 .same
-
-returns-2 : tie.Need-returns-2 Inv-loop μ-loop
-unfolding inbox
+returns-2 : tie.Need-returns-2
 returns-2 c =
-    let a = c .before .before .before .before .before .before .before .before .before .before .before .args in
-    let n = c .before .before .before .before .before .before .before .columns in
-    let e = sym (c .before .before .before .before .before .if1 .left) ∙ c .before .before .before .before .before .before .refusal .ensures ∙ ap (λ (n : ℕ). refusal 0 n (a .round .width) (length (a .inbox .now))) (n .ensures) in
-    (e, rowed-done _ _ _ _ _ _ (c .before .loop .inv .0) (omega arith) ∙ ap (λ (n : ℕ). rowsOf (sent (a .sheet .now) (a .round) (a .mail .now) (a .to + 1)) (a .round .width) n) (n .ensures) ∙ sym (if-done _ _ _ (sym e)))
+    let a = c .before .before .before .before .before .before .before .before .before .before .before .before .args in
+    let e = sym (c .before .before .before .before .before .before .if1 .left) ∙ c .before .before .before .before .before .before .before .refusal .ensures ∙ ap (λ (n : ℕ). refusal 0 n (a .round .width) (length (a .inbox .now))) (c .before .before .before .before .before .before .before .before .columns .ensures) in
+    (e, c .before .before .deliver-words .ensures ∙ sym (if-done _ _ _ (sym e)))
+
+deliver-messages-requires : tie.Need-deliver-messages-requires
+deliver-messages-requires c κs =
+    let a = c .before .before .before .before .before .before .before .before .before .args in
+    let long = accepted _ _ _ _ (sym (c .before .before .before .before .refusal .ensures) ∙ c .before .before .before .if1 .left) .1 in
+    ap (λ (n : ℕ). n * (a .round .width)) (sym (c .before .before .before .before .before .columns .ensures)) ∙ sym long
+
+same-length-2 : tie.Need-same-length-2
+same-length-2 c = search needs
+
+returns-3 : tie.Need-returns-3
+returns-3 c =
+    let a = c .before .before .before .before .before .before .before .before .before .before .before .before .args in
+    let e = sym (c .before .before .before .before .before .before .if1 .left) ∙ c .before .before .before .before .before .before .before .refusal .ensures ∙ ap (λ (n : ℕ). refusal 0 n (a .round .width) (length (a .inbox .now))) (c .before .before .before .before .before .before .before .before .columns .ensures) in
+    (e, c .before .before .deliver-messages .ensures ∙ sym (if-done _ _ _ (sym e)))
 
 pub deliver-spec : {M : Type 1} → statement M
 deliver-spec =
     tie.close
     (tie.spec
-    Inv-loop
-    μ-loop
     columns-requires
     refusal-requires
     returns
-    place-requires
-    mul-step
-    bytes-requires
-    first-place-requires
-    loop-holds
-    place-requires-2
-    add-mark
-    mark-requires
-    mul-copy
-    sub-copy
-    part-copy-start
-    part-copy-end
-    copy-requires
-    next-place-requires
-    add-j
-    loop-less
-    loop-again
+    deliver-words-requires
     same-length
-    returns-2)
+    returns-2
+    deliver-messages-requires
+    same-length-2
+    returns-3)

@@ -13,7 +13,7 @@ use Rattle.lists.specs.Count.{find, Found, count-same}
 use Rattle.field.specs.Field.{blank}
 use Rattle.sizes.specs.Sizes.{faults}
 use Rattle.messages.specs.Messages.{readPoint, times}
-use Rattle.messages.specs.Laws.{point-is}
+use Rattle.messages.specs.Laws.{point-is, same-point}
 use Rattle.dissemination.specs.Dissemination.{least, often, keptPoint}
 
 -- THE LEAST NUMBER THAT PASSES
@@ -50,18 +50,26 @@ least-one P (suc count) u = go (P u) (least-one P count (suc u))
     go false (inl h) = inl (omega arith)
     go false (inr h) = inr h
 
-pub least-same : (P Q : ℕ → Bool) → ((v : ℕ) → P v ≡ Q v) → (count u : ℕ) → least P count u ≡ least Q count u
+pub least-same : (P Q : ℕ → Bool) (count u : ℕ) → ((v : ℕ) → v < u + count → P v ≡ Q v) → least P count u ≡ least Q count u
 unfolding least
-least-same P Q h zero u = refl
-least-same P Q h (suc count) u = rw (h u, least-same P Q h count (suc u))
+least-same P Q zero u h = refl
+least-same P Q (suc count) u h = rw (h u (omega arith), least-same P Q count (suc u) (λ v l. h v (omega arith)))
 
 -- THE KEPT POINT
 
-pub kept-same : (n : ℕ) (f g : ℕ → ℕ) → ((j : ℕ) → 1 ≤ j → j ≤ n → f j ≡ g j) → keptPoint n f ≡ keptPoint n g
-unfolding keptPoint often times
-kept-same n f g h =
-    least-same (often n f) (often n g) (λ v.
-    ap (λ (k : ℕ). leb (faults n + 1) k) (count-same (λ j. eqb (f j) v) (λ j. eqb (g j) v) n (λ j l u. rw (h j l u)))) 257 0
+module _ (n : ℕ) (f g : ℕ → ℕ) where
+  kept-by : ((v : ℕ) → v < 257 → (j : ℕ) → 1 ≤ j → j ≤ n → eqb (f j) v ≡ eqb (g j) v) → keptPoint n f ≡ keptPoint n g
+  unfolding keptPoint often times
+  kept-by h =
+      least-same (often n f) (often n g) 257 0 (λ v l.
+      ap (λ (k : ℕ). leb (faults n + 1) k) (count-same (λ j. eqb (f j) v) (λ j. eqb (g j) v) n (h v (omega arith))))
+
+  pub kept-same : ((j : ℕ) → 1 ≤ j → j ≤ n → f j ≡ g j) → keptPoint n f ≡ keptPoint n g
+  kept-same h = kept-by (λ v _ j l u. rw (h j l u))
+
+  -- it is the same of the values as they came and of the points that are read from them
+  pub kept-unread : ((j : ℕ) → 1 ≤ j → j ≤ n → readPoint (f j) ≡ g j) → keptPoint n f ≡ keptPoint n g
+  kept-unread h = kept-by (λ v b j l u. sym (same-point (f j) v b) ∙ rw (h j l u))
 
 -- it is a point or blank: it reads as itself
 pub kept-reads : (n : ℕ) (received : ℕ → ℕ) → readPoint (keptPoint n received) ≡ keptPoint n received

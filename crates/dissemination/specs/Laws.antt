@@ -1,25 +1,27 @@
 -- The laws that the calls use.
 use mathlib.Core.Path.{_≡_, refl, sym, ap, _∙_}
 use mathlib.Core.Bool.{Bool, true, false, cond}
-use mathlib.Core.List.{List}
+use mathlib.Core.List.{List, _++_}
 use mathlib.Core.Option.{Option, none, some}
-use Prim.Native.Nat.{ℕ, zero, suc, _+_, _-_, _≤_, _<_}
+use Prim.Native.Nat.{ℕ, zero, suc, _+_, _-_, _*_, _≤_, _<_}
 use native.Mathlib.Omega.{arith}
 use borrow.Author.Tests.{lt-ltb, le-ltb, ne-eqb}
-use lib.Dec.{ltb}
-use lib.ListN.{length, getD, take, replicate}
+use lib.Dec.{eqb, ltb}
+use lib.ListN.{length, getD, take, drop, replicate, List·getD-append}
 use lib.Seq.{ext-getD, getD-take, length-take-le}
-use Rattle.lists.specs.Lists.{all, listOf}
-use Rattle.lists.specs.Entries.{length-listOf, getD-listOf}
+use Rattle.lists.specs.Lists.{all, listOf, rowsOf}
+use Rattle.lists.specs.Entries.{length-listOf, getD-listOf, getD-within, listOf-same}
+use Rattle.lists.specs.Rows.{row-fits}
 use Rattle.field.specs.Field.{blank}
 use Rattle.sizes.specs.Sizes.{blocks, refusal}
-use Rattle.sizes.specs.Laws.{accepted}
-use Rattle.messages.specs.Messages.{readPoint, said, from, laid, heardOfAll}
+use Rattle.sizes.specs.Laws.{accepted, few-blocks}
+use Rattle.messages.specs.Messages.{readPoint, said, from, toAll, laid, heard, heardOfAll}
 use Rattle.messages.specs.Laws.{said-laid, from-place, from-heard, heard-same}
-use Rattle.codeword.specs.Codeword.{values}
+use Rattle.codeword.specs.Codeword.{values, codewords, across, writtenAcross}
 use Rattle.codeword.specs.Apart.{length-values}
-use Rattle.dissemination.specs.Dissemination.{spoken, pointsIn, pointAt, points, keptPoint, keptAt, keptPoints, isBlock, byteAt, recordOf, roundRefusal, kept}
-use Rattle.dissemination.specs.Kept.{kept-same, kept-reads}
+use Rattle.codeword.specs.Words.{across-is, across-written, rows-same}
+use Rattle.dissemination.specs.Dissemination.{spoken, pointsIn, pointAt, points, pointsToAll, keptPoint, keptAt, keptPoints, isBlock, byteAt, recordOf, roundRefusal, kept}
+use Rattle.dissemination.specs.Kept.{kept-same, kept-unread, kept-reads}
 
 -- SPEAKING OR NOT
 
@@ -81,15 +83,77 @@ said-own n m speaks bytes x h all e k = said-silenced speaks all k ∙ rw e (go 
     go true = said-laid 32 (values n m bytes x) k (omega (arith, length-values n m bytes x))
     go false = refl
 
--- the kept point of a block, from the values of all columns
-pub kept-at : (n m own : ℕ) (speaks : Bool) (bytes inbox mine : List ℕ) (b k : ℕ) → refusal n m own ≡ 0 → b ≡ blocks n m → k < b
-    → ((i : ℕ) → said mine i ≡ said (points n m speaks bytes own) i)
-    → keptPoint n (from (listOf (readAt (heardOfAll n own mine b inbox k)) 31)) ≡ keptAt n m own speaks bytes inbox k
-unfolding keptAt pointsIn
-kept-at n m own speaks bytes inbox mine b k r e l f =
-    rw (e, lt-ltb k (blocks n m) (omega (arith, e))) (kept-same n _ (pointsIn own (points n m speaks bytes own) (blocks n m) inbox k) (λ j a u.
-    points-read n own mine (blocks n m) inbox k j a u (accepted n m own r .range .columns-high)
-    ∙ ap readPoint (heard-same own mine (blocks n m) inbox (points n m speaks bytes own) j k (f k))))
+-- what the codewords have at the place of column j
+unfoldable pub pointsAcross : List ℕ → ℕ → ℕ → ℕ
+pointsAcross words j k = across words (j - 1) k
+
+-- it was written for column j + 1
+pub across-row : (b : ℕ) (words : List ℕ) (j : ℕ) (part : List ℕ) → b ≤ length part → j < 32 → 32 * b ≤ length words
+    → writtenAcross b words j part ≡ listOf (pointsAcross words (j + 1)) b ++ drop b part
+unfolding pointsAcross
+across-row b words j part h l u =
+    let e : j ≡ j + 1 - 1 = omega arith in
+    across-written b words j part h l u ∙ ap (λ (i : ℕ). listOf (across words i) b ++ drop b part) e
+
+pub points-are : (n m : ℕ) (bytes : List ℕ) (b : ℕ) (words : List ℕ) → refusal n m 1 ≡ 0 → b ≡ blocks n m → words ≡ codewords n m bytes
+    → rowsOf (pointsAcross words) b n ≡ pointsToAll n m true bytes
+unfolding pointsAcross pointsToAll points spoken
+points-are n m bytes b words r e f =
+    rw (e, f) (rows-same (pointsAcross (codewords n m bytes)) (λ j. said (points n m true bytes j)) (blocks n m) n (λ j k l u h.
+    let place : j - 1 + 1 ≡ j = omega arith in
+    across-is n m bytes (j - 1) k (omega (arith, accepted n m 1 r .range .columns-high)) (omega (arith, few-blocks n m 1 r))
+    ∙ ap (λ (x : ℕ). said (values n m bytes x) k) place))
+
+-- blanks are the points of a column that does not speak
+pub points-none : (n m : ℕ) (speaks : Bool) (bytes other : List ℕ) → speaks ≡ false → toAll n (blocks n m) (spoken false other) ≡ pointsToAll n m speaks bytes
+unfolding toAll pointsToAll points spoken
+points-none n m speaks bytes other e = rw e refl
+
+-- value k from column i + 1, of messages of b values, where `mine` stands at the own place
+unfoldable pub heardAt : ℕ → ℕ → ℕ → List ℕ → ℕ → ℕ → ℕ
+heardAt own mine b inbox k i = cond (eqb (i + 1) own) mine (getD inbox (i * b + k) 0)
+
+-- the kept point of block k, by what the column would send itself
+unfoldable pub keptFrom : ℕ → ℕ → List ℕ → ℕ → List ℕ → ℕ → ℕ
+keptFrom n own mine b inbox k = cond (ltb k b) (keptPoint n (pointsIn own mine b inbox k)) blank
+
+-- the values of the first n places were written
+pub said-front : (f : ℕ → ℕ) (n : ℕ) (rest all : List ℕ) → all ≡ listOf f n ++ rest → (i : ℕ) → i < n → said all i ≡ f i
+unfolding said
+said-front f n rest all e i h =
+    rw e (List·getD-append (listOf f n) rest blank i (omega (arith, length-listOf f n)) ∙ getD-listOf f n i blank h)
+
+module _ (n own : ℕ) (mine : List ℕ) (b : ℕ) (inbox : List ℕ) (k : ℕ) where
+  heard-at : (i : ℕ) → i * b + k < length inbox → heardAt own (said mine k) b inbox k i ≡ heard own mine b inbox (i + 1) k
+  unfolding heardAt heard
+  heard-at i h =
+      let row : i ≡ i + 1 - 1 = omega arith in
+      ap (λ (v : ℕ). cond (eqb (i + 1) own) (said mine k) v)
+      (getD-within inbox (i * b + k) 0 blank h ∙ ap (λ (j : ℕ). getD inbox (j * b + k) blank) row)
+
+  -- of the values that n columns sent
+  pub kept-from : (came : List ℕ) → k < b → n * b ≡ length inbox → ((i : ℕ) → i < n → said came i ≡ heardAt own (said mine k) b inbox k i)
+      → keptPoint n (from came) ≡ keptFrom n own mine b inbox k
+  unfolding keptFrom pointsIn
+  kept-from came l long h =
+      rw (lt-ltb k b l) (kept-unread n (from came) (pointsIn own mine b inbox k) (λ j a u.
+      let place : j - 1 + 1 ≡ j = omega arith in
+      let i : j - 1 < n = omega arith in
+      ap readPoint (rw place at (from-place came (j - 1) ∙ h (j - 1) i ∙ heard-at (j - 1) (omega (arith, long, row-fits b (j - 1) n i))))))
+
+  pub kept-past : b ≤ k → blank ≡ keptFrom n own mine b inbox k
+  unfolding keptFrom
+  kept-past h = simp (le-ltb k b h)
+
+-- the kept points of all blocks
+pub kept-are : (n m own : ℕ) (speaks : Bool) (bytes inbox : List ℕ) (b : ℕ) (mine : List ℕ) → b ≡ blocks n m → ((i : ℕ) → said mine i ≡ said (points n m speaks bytes own) i)
+    → listOf (keptFrom n own mine b inbox) 32 ≡ keptPoints n m own speaks bytes inbox
+unfolding keptFrom keptPoints keptAt pointsIn
+kept-are n m own speaks bytes inbox b mine e f =
+    rw e (listOf-same (keptFrom n own mine (blocks n m) inbox) (keptAt n m own speaks bytes inbox) 32 (λ k _.
+    ap (λ (p : ℕ). cond (ltb k (blocks n m)) p blank)
+    (kept-same n (pointsIn own mine (blocks n m) inbox k) (pointsIn own (points n m speaks bytes own) (blocks n m) inbox k) (λ j _ _.
+    ap readPoint (heard-same own mine (blocks n m) inbox (points n m speaks bytes own) j k (f k))))))
 
 module _ (n m own : ℕ) (speaks : Bool) (bytes inbox : List ℕ) (r : ℕ) (e : r ≡ roundRefusal n m own (length inbox)) where
   pub kept-refused : (r ≡ 0 → ⊥) → record { refusal = r; points = replicate 32 blank } ≡ kept n m own speaks bytes inbox

@@ -1,17 +1,16 @@
 // The first round: a column that has a record to spread sends each column its points, and every column keeps those it received often.
-use super::read_points;
 use super::refusal;
 use super::silenced_unless;
 use field::Field;
 ghost use mathlib.Core.Path.{_≡_};
-ghost use mathlib.Core.List.{_++_};
-ghost use Prim.Native.Nat.{ℕ, _+_, _*_, _≤_};
-ghost use lib.ListN.{length, drop};
-ghost use Rattle.lists.specs.Lists.{listOf};
+ghost use mathlib.Core.Bool.{true};
+ghost use Prim.Native.Nat.{ℕ, _+_, _*_, _≤_, _<_};
+ghost use lib.ListN.{length};
 ghost use Rattle.sizes.specs.Sizes.{blocks, refusal as refusalOfSizes};
 ghost use Rattle.messages.specs.Messages.{said, from, unlessRefused};
-ghost use Rattle.dissemination.specs.Dissemination.{points as pointsOf, pointsToAll, keptPoint, keptAt, keptPoints, roundRefusal, kept as keptOf};
+ghost use Rattle.dissemination.specs.Dissemination.{pointsToAll, keptPoint, keptPoints, roundRefusal, kept as keptOf};
 ghost use Rattle.dissemination.specs.Kept.{better as betterOf};
+ghost use Rattle.dissemination.specs.Laws.{heardAt, keptFrom};
 
 // What listening to the points answers: its refusal, 0 for none, and the kept point of each block, blank past the blocks; all blank
 // where it refuses.
@@ -20,26 +19,16 @@ pub struct KeptPoints {
     pub points: [u16; 32],
 }
 
-// Writes the points of column j + 1 to the front of a part of the outgoing slice.
-fn send_one(n: u8, m: u8, speaks: bool, bytes: [u8; 32], j: u8, part: &mut [u16])
-    requires { ⌜ (refusalOfSizes n m 1 ≡ 0) × (blocks n m ≤ length (now part)) ⌝ }
-    ensures { λ _. ⌜ now (part .exit) ≡ listOf (said (pointsOf n m speaks bytes (j + 1))) (blocks n m) ++ drop (blocks n m) (now (part .entry)) ⌝ }
-{
-    let b = sizes::blocks(n, m) as u16;
-    let values = codeword::values(n, m, bytes, j as u16 + 1);
-    let message = silenced_unless(speaks, values);
-    messages::write(b, &message, part);
-}
-
 // Writes the points of each of n columns, each through the part of the slice that starts at its place.
-fn send_all(n: u8, m: u8, speaks: bool, bytes: [u8; 32], out: &mut [u16])
+fn send_all(n: u8, m: u8, bytes: [u8; 32], out: &mut [u16])
     requires { ⌜ (refusalOfSizes n m 1 ≡ 0) × (n * blocks n m ≡ length (now out)) ⌝ }
-    ensures { λ _. ⌜ now (out .exit) ≡ pointsToAll n m speaks bytes ⌝ }
+    ensures { λ _. ⌜ now (out .exit) ≡ pointsToAll n m true bytes ⌝ }
 {
     let b = sizes::blocks(n, m) as u16;
+    let words = codeword::codewords(n, m, bytes);
     for j in 0..n {
         let at = messages::place(j, b, 0);
-        send_one(n, m, speaks, bytes, j, &mut out[at..]);
+        codeword::write(b, &words, j, &mut out[at..]);
     }
 }
 
@@ -49,11 +38,14 @@ pub fn send(n: u8, m: u8, speaks: bool, bytes: [u8; 32], out: &mut [u16]) -> u8
     ensures { λ r. ⌜ (r ≡ roundRefusal n m 1 (length (now (out .entry))))
         × (now (out .exit) ≡ unlessRefused (roundRefusal n m 1 (length (now (out .entry)))) (pointsToAll n m speaks bytes) (now (out .entry))) ⌝ }
 {
+    if !speaks {
+        return super::decoding::send(n, m, false, [65535u16; 32], out);
+    }
     let why = refusal(n, m, 1, out.len());
     if why != 0 {
         return why;
     }
-    send_all(n, m, speaks, bytes, out);
+    send_all(n, m, bytes, out);
     0
 }
 
@@ -84,40 +76,56 @@ fn kept_point(n: u8, points: &[u16]) -> u16
     best
 }
 
-// The kept point of block k; blank past the blocks.
-fn kept_at(
-    n: u8,
-    m: u8,
-    own: u8,
-    speaks: bool,
-    bytes: [u8; 32],
-    inbox: &[u16],
-    mine: [u16; 32],
-    k: u8,
-) -> u16
-    requires { ⌜ (refusalOfSizes n m own ≡ 0) × ((i : ℕ) → said mine i ≡ said (pointsOf n m speaks bytes own) i) ⌝ }
-    ensures { λ r. ⌜ r ≡ keptAt n m own speaks bytes (now (inbox .entry)) k ⌝ }
+// Value k from column i + 1, of messages of b values; at its own place the column uses `mine`.
+fn heard_at(own: u8, mine: u16, b: u16, inbox: &[u16], k: u16, i: u8) -> u16
+    requires { ⌜ (i ≤ 30) × (i * b + k < length (now inbox)) ⌝ }
+    ensures { λ r. ⌜ r ≡ heardAt own mine b (now (inbox .entry)) k i ⌝ }
 {
-    let b = sizes::blocks(n, m) as u16;
-    if b <= k as u16 {
+    if i + 1 == own {
+        return mine;
+    }
+    let at = messages::place(i, b, k);
+    inbox[at]
+}
+
+// Value k from each of n columns, by column number.
+fn heard_in(n: u8, own: u8, mine: u16, b: u16, inbox: &[u16], k: u16) -> [u16; 32]
+    requires { ⌜ (n ≤ 31) × (k < b) × (n * b ≡ length (now inbox)) ⌝ }
+    ensures { λ r. ⌜ ((i : ℕ) → i < n → said r i ≡ heardAt own mine b (now (inbox .entry)) k i) ⌝ }
+{
+    let mut values = [65535u16; 32];
+    for i in 0..n {
+        let at = i as usize;
+        values[at] = heard_at(own, mine, b, inbox, k, i);
+    }
+    values
+}
+
+// The kept point of block k, where `mine` is what the column would send itself; blank past the blocks. A value that is no point is never kept,
+// so none has to be read first.
+fn kept_at(n: u8, own: u8, mine: &[u16], b: u16, inbox: &[u16], k: u16) -> u16
+    requires { ⌜ (n ≤ 31) × (n * b ≡ length (now inbox)) ⌝ }
+    ensures { λ r. ⌜ r ≡ keptFrom n own (now (mine .entry)) b (now (inbox .entry)) k ⌝ }
+{
+    if b <= k {
         return Field::BLANK;
     }
-    let heard = messages::heard_of_all(n, own, &mine, b, inbox, k as u16);
-    let points = read_points(heard);
-    kept_point(n, &points)
+    let values = heard_in(n, own, messages::value(mine, k as usize), b, inbox, k);
+    kept_point(n, &values)
 }
 
 // The kept points of all blocks.
 fn kept_points(n: u8, m: u8, own: u8, speaks: bool, bytes: [u8; 32], inbox: &[u16]) -> [u16; 32]
-    requires { ⌜ refusalOfSizes n m own ≡ 0 ⌝ }
+    requires { ⌜ (refusalOfSizes n m own ≡ 0) × (n * blocks n m ≡ length (now inbox)) ⌝ }
     ensures { λ r. ⌜ r ≡ keptPoints n m own speaks bytes (now (inbox .entry)) ⌝ }
 {
+    let b = sizes::blocks(n, m) as u16;
     let values = codeword::values(n, m, bytes, own as u16);
     let mine = silenced_unless(speaks, values);
     let mut all = [65535u16; 32];
-    for k in 0..32u8 {
+    for k in 0..32u16 {
         let at = k as usize;
-        all[at] = kept_at(n, m, own, speaks, bytes, inbox, mine, k);
+        all[at] = kept_at(n, own, &mine, b, inbox, k);
     }
     all
 }

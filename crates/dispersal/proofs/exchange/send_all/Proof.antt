@@ -38,7 +38,7 @@ slice-aggregate-send-one : tie.Need-slice-aggregate-send-one Inv-loop μ-loop
 slice-aggregate-send-one c = search needs
 
 add-send-one : tie.Need-add-send-one Inv-loop μ-loop
-add-send-one c = omega arith
+add-send-one c = omega (arith, accepted (c .before .before .before .before .before .before .before .args .n) (c .before .before .before .before .before .before .before .args .m) (c .before .before .before .before .before .before .before .args .own) (c .before .before .before .before .before .before .before .pre .0) .range .columns-high)
 
 mul-send-one : tie.Need-mul-send-one Inv-loop μ-loop
 mul-send-one c = omega (arith, c .before .place .ensures, rowed-fits _ _ _ _ _ _ (c .before .before .before .loop .inv) (omega arith), c .before .before .before .before .before .before .before .good)

@@ -13,7 +13,7 @@ returns : tie.Need-returns
 returns c = kept-refused _ _ _ _ _ _ _ (c .before .refusal .ensures) (c .if1 .taken)
 
 kept-points-requires : tie.Need-kept-points-requires
-kept-points-requires c κs = messages-accepted _ _ _ _ (sym (c .before .refusal .ensures) ∙ c .if1 .left) .0
+kept-points-requires c κs = let h = messages-accepted _ _ _ _ (sym (c .before .refusal .ensures) ∙ c .if1 .left) in (h .0, sym (h .1))
 
 returns-2 : tie.Need-returns-2
 returns-2 c = kept-done _ _ _ _ _ _ _ (c .before .before .refusal .ensures) _ (c .before .if1 .left) (c .kept-points .ensures)

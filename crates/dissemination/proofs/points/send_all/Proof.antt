@@ -1,19 +1,20 @@
 -- `points::send_all` meets its contract.
+use mathlib.Core.Path.{_∙_}
 use Prim.Native.Nat.{_-_}
 use native.Mathlib.Omega.{arith}
+use borrow.Author.Needs.{needs}
 use Rattle.lists.specs.Loops.{Rowed, rowed-none, rowed-fits, rowed-more, rowed-room, rowed-done}
-use Rattle.sizes.specs.Sizes.{blocks}
-use Rattle.sizes.specs.Laws.{blocks-le}
-use Rattle.messages.specs.Messages.{said}
-use Rattle.dissemination.specs.Dissemination.{points, pointsToAll}
+use Rattle.sizes.specs.Laws.{blocks-le, accepted, few-blocks}
+use Rattle.codeword.specs.Words.{length-codewords}
+use Rattle.dissemination.specs.Laws.{pointsAcross, across-row, points-are}
 use Rattle.dissemination.proofs.points.send_all.Statement.{statement}
 use Rattle.dissemination.proofs.points.send_all.Tie as tie
 
 abbrev Inv-loop : tie.InvT-loop
-Inv-loop n m speaks bytes out₀ b j₀ out j = Rowed (λ j. said (points n m speaks bytes j)) (blocks n m) n out₀ out j
+Inv-loop n m out₀ b words j₀ out j = Rowed (pointsAcross words) b n out₀ out j
 
 abbrev μ-loop : tie.MeasureT-loop
-μ-loop n m speaks bytes out₀ b j₀ out j = n - j
+μ-loop n m out₀ b words j₀ out j = n - j
 
 blocks-requires : tie.Need-blocks-requires Inv-loop μ-loop
 blocks-requires c κs = tt
@@ -21,26 +22,32 @@ blocks-requires c κs = tt
 cast-b : tie.Need-cast-b Inv-loop μ-loop
 cast-b c = record { fits = omega (arith, c .blocks2 .ensures, blocks-le (c .before .before .args .n) (c .before .before .args .m)) }
 
+codewords-requires : tie.Need-codewords-requires Inv-loop μ-loop
+codewords-requires c κs = tt
+
 loop-holds : tie.Need-loop-holds Inv-loop μ-loop
-loop-holds c = rowed-none _ _ _ _ (c .before .before .pre .1)
+loop-holds c = rowed-none _ _ _ _ (rw (c .before .blocks2 .ensures) (c .before .before .before .pre .1))
 
 place-requires : tie.Need-place-requires Inv-loop μ-loop
 place-requires c κs = tt
 
-mul-send-one : tie.Need-mul-send-one Inv-loop μ-loop
-mul-send-one c = omega (arith, rw (c .before .before .before .blocks2 .ensures) at (c .place .ensures), rowed-fits _ _ _ _ _ _ (c .before .before .loop .inv) (omega arith), c .before .before .before .before .before .good)
+slice-aggregate-write : tie.Need-slice-aggregate-write Inv-loop μ-loop
+slice-aggregate-write c = search needs
 
-sub-send-one : tie.Need-sub-send-one Inv-loop μ-loop
-sub-send-one c = omega (arith, rw (c .before .before .before .blocks2 .ensures) at (c .place .ensures), rowed-fits _ _ _ _ _ _ (c .before .before .loop .inv) (omega arith))
+mul-write : tie.Need-mul-write Inv-loop μ-loop
+mul-write c = omega (arith, c .before .place .ensures, rowed-fits _ _ _ _ _ _ (c .before .before .before .loop .inv) (omega arith), c .before .before .before .before .before .before .before .good)
 
-part-send-one-start : tie.Need-part-send-one-start Inv-loop μ-loop
-part-send-one-start c = omega (arith, rw (c .before .before .before .blocks2 .ensures) at (c .place .ensures), rowed-fits _ _ _ _ _ _ (c .before .before .loop .inv) (omega arith))
+sub-write : tie.Need-sub-write Inv-loop μ-loop
+sub-write c = omega (arith, c .before .place .ensures, rowed-fits _ _ _ _ _ _ (c .before .before .before .loop .inv) (omega arith))
 
-part-send-one-end : tie.Need-part-send-one-end Inv-loop μ-loop
-part-send-one-end c = omega arith
+part-write-start : tie.Need-part-write-start Inv-loop μ-loop
+part-write-start c = omega (arith, c .before .place .ensures, rowed-fits _ _ _ _ _ _ (c .before .before .before .loop .inv) (omega arith))
 
-send-one-requires : tie.Need-send-one-requires Inv-loop μ-loop
-send-one-requires c κs = (c .before .before .before .before .before .before .pre .0, rowed-room _ _ _ _ _ _ _ (c .before .before .before .loop .inv) (omega arith) (omega (arith, rw (c .before .before .before .before .blocks2 .ensures) at (c .before .place .ensures))))
+part-write-end : tie.Need-part-write-end Inv-loop μ-loop
+part-write-end c = omega arith
+
+write-requires : tie.Need-write-requires Inv-loop μ-loop
+write-requires c κs = tt
 
 add-j : tie.Need-add-j Inv-loop μ-loop
 add-j c = omega arith
@@ -49,14 +56,22 @@ loop-less : tie.Need-loop-less Inv-loop μ-loop
 loop-less c = omega arith
 
 loop-again : tie.Need-loop-again Inv-loop μ-loop
-loop-again c = rowed-more _ _ _ _ _ _ _ _ (c .before .before .before .before .before .before .loop .inv) (omega arith) (omega (arith, rw (c .before .before .before .before .before .before .before .blocks2 .ensures) at (c .before .before .before .before .place .ensures))) (c .before .before .send-one .ensures)
+loop-again c =
+    let s = c .before .before .before .before .before .before .before .before .before .before .before in
+    let few = few-blocks (s .args .n) (s .args .m) 1 (s .pre .0) in
+    let b = c .before .before .before .before .before .before .before .before .before .blocks2 .ensures in
+    let at = c .before .before .before .before .before .place .ensures in
+    let i = c .before .before .before .before .before .before .before .loop .inv in
+    rowed-more _ _ _ _ _ _ _ _ i (omega arith) (omega (arith, at))
+    (c .before .before .write .ensures
+    ∙ across-row _ _ _ _ (rowed-room _ _ _ _ _ _ _ i (omega arith) (omega (arith, at))) (omega (arith, accepted (s .args .n) (s .args .m) 1 (s .pre .0) .range .columns-high))
+    (rw (c .before .before .before .before .before .before .before .before .codewords .ensures, length-codewords (s .args .n) (s .args .m) (s .args .bytes)) (omega (arith, few, b))))
 
 same-length : tie.Need-same-length Inv-loop μ-loop
 same-length c = c .before .loop .inv .same
 
 returns : tie.Need-returns Inv-loop μ-loop
-unfolding pointsToAll
-returns c = rowed-done _ _ _ _ _ _ (c .before .loop .inv) (omega arith)
+returns c = rowed-done _ _ _ _ _ _ (c .before .loop .inv) (omega arith) ∙ points-are _ _ _ _ _ (c .before .before .before .before .before .pre .0) (c .before .before .before .blocks2 .ensures) (c .before .before .codewords .ensures)
 
 pub send-all-spec : {M : Type 1} → statement M
 send-all-spec =
@@ -66,13 +81,15 @@ send-all-spec =
     μ-loop
     blocks-requires
     cast-b
+    codewords-requires
     loop-holds
     place-requires
-    mul-send-one
-    sub-send-one
-    part-send-one-start
-    part-send-one-end
-    send-one-requires
+    slice-aggregate-write
+    mul-write
+    sub-write
+    part-write-start
+    part-write-end
+    write-requires
     add-j
     loop-less
     loop-again

@@ -1,15 +1,15 @@
 -- The kept point: the least of the points that were received at least t + 1 times.
 use mathlib.Core.Path.{_≡_, refl, sym, ap, _∙_}
 use mathlib.Core.Logic.{_⊎_, inl, inr}
-use mathlib.Core.Bool.{Bool, true, false, cond, _&&_}
-use Prim.Native.Nat.{ℕ, zero, suc, _+_, _≤_, _<_}
+use mathlib.Core.Bool.{Bool, true, false, cond, not, _&&_}
+use Prim.Native.Nat.{ℕ, zero, suc, _+_, _*_, _≤_, _<_}
 use native.Mathlib.Nat.{eq-or-lt-of-le}
 use native.Mathlib.Omega.{arith}
-use borrow.Author.Tests.{ltb-true, ltb-false}
-use lib.Dec.{T, eqb, leb, ltb, leb→le, eqb→eq}
+use borrow.Author.Tests.{ltb-true, ltb-false, le-ltb}
+use lib.Dec.{T, eqb, leb, ltb, leb→le, le→leb, eqb→eq, not-T}
 use Rattle.lists.specs.Lists.{count}
 use Rattle.lists.specs.Tests.{passes}
-use Rattle.lists.specs.Count.{find, Found, count-same}
+use Rattle.lists.specs.Count.{mono, count-not, count-le, find, Found, count-same}
 use Rattle.field.specs.Field.{blank}
 use Rattle.sizes.specs.Sizes.{faults}
 use Rattle.messages.specs.Messages.{readPoint, times}
@@ -90,9 +90,25 @@ kept-is n received v l h f = least-is (often n received) v h f 257 0 (omega arit
 
 -- LOOKING FOR IT AMONG WHAT WAS RECEIVED
 
+-- how often v was received, where it is a point below the best so far; else 0
+unfoldable pub weight : ℕ → (ℕ → ℕ) → ℕ → ℕ → ℕ
+weight n received best v = cond (ltb v best && ltb v 257) (times received v n) 0
+
 -- the better of the best so far and v
 unfoldable pub better : ℕ → (ℕ → ℕ) → ℕ → ℕ → ℕ
-better n received best v = cond (ltb v best && ltb v 257 && often n received v) v best
+better n received best v = cond (ltb (faults n) (weight n received best v)) v best
+
+pub weight-le : (n : ℕ) (received : ℕ → ℕ) (best v : ℕ) → weight n received best v ≤ n
+unfolding weight times
+weight-le n received best v = go (ltb v best && ltb v 257)
+  where
+    go : (b : Bool) → cond b (times received v n) 0 ≤ n
+    go true = count-le (λ j. eqb (received j) v) n
+    go false = omega arith
+
+pub better-is : (n : ℕ) (received : ℕ → ℕ) (best t c v u : ℕ) → t ≡ faults n → c ≡ weight n received best v → v ≡ u → cond (ltb t c) v best ≡ better n received best u
+unfolding better
+better-is n received best t c v u e f g = rw (e, f, g) refl
 
 -- the best of the columns 1 to i, of n
 pub record Best (n : ℕ) (received : ℕ → ℕ) (i best : ℕ) : Type 0 where
@@ -105,9 +121,9 @@ pub best-none : (n : ℕ) (received : ℕ → ℕ) → Best n received 0 blank
 best-none n received = record { within = omega arith; one = inl refl; most = omega arith; lowest = λ j l u h t. absurd (omega arith) }
 
 pub best-more : (n : ℕ) (received : ℕ → ℕ) (i best r : ℕ) → Best n received i best → i < n → r ≡ better n received best (received (i + 1)) → Best n received (i + 1) r
-unfolding better
+unfolding better weight often
 best-more n received i best r b h e =
-    rw e (go (ltb (received (i + 1)) best) (ltb (received (i + 1)) 257) (often n received (received (i + 1))) refl refl refl)
+    rw e (go (ltb (received (i + 1)) best) (ltb (received (i + 1)) 257) (ltb (faults n) (times received (received (i + 1)) n)) refl refl refl)
   where
     -- the next column too
     next : (x : ℕ) → x ≤ best → (received (i + 1) < 257 → T (often n received (received (i + 1))) → x ≤ received (i + 1))
@@ -121,19 +137,50 @@ best-more n received i best r b h e =
     stays : (received (i + 1) < 257 → T (often n received (received (i + 1))) → best ≤ received (i + 1)) → Best n received (i + 1) best
     stays f = record { within = omega arith; one = b .one; most = b .most; lowest = next best (omega arith) f }
 
-    go : (p q s : Bool) → ltb (received (i + 1)) best ≡ p → ltb (received (i + 1)) 257 ≡ q → often n received (received (i + 1)) ≡ s
-        → Best n received (i + 1) (cond (p && q && s) (received (i + 1)) best)
+    none : ltb (faults n) 0 ≡ false
+    none = le-ltb (faults n) 0 (omega arith)
+
+    go : (p q s : Bool) → ltb (received (i + 1)) best ≡ p → ltb (received (i + 1)) 257 ≡ q → ltb (faults n) (times received (received (i + 1)) n) ≡ s
+        → Best n received (i + 1) (cond (ltb (faults n) (cond (p && q) (times received (received (i + 1)) n) 0)) (received (i + 1)) best)
     go true true true ep eq es =
         let l = ltb-true (received (i + 1)) best ep in
-        record {
+        rw es (record {
           within = omega arith;
-          one = inr (ltb-true (received (i + 1)) 257 eq, passes _ es);
+          one = inr (ltb-true (received (i + 1)) 257 eq, le→leb (faults n + 1) (times received (received (i + 1)) n) (omega (arith, ltb-true (faults n) (times received (received (i + 1)) n) es)));
           most = omega (arith, b .most);
           lowest = next (received (i + 1)) (omega arith) (λ _ _. omega arith);
-        }
-    go false q s ep eq es = stays (λ _ _. ltb-false (received (i + 1)) best ep)
-    go true false s ep eq es = stays (λ l _. absurd (omega (arith, ltb-false (received (i + 1)) 257 eq)))
-    go true true false ep eq es = stays (λ _ t. absurd (rw es at t))
+        })
+    go false q s ep eq es = rw none (stays (λ _ _. ltb-false (received (i + 1)) best ep))
+    go true false s ep eq es = rw none (stays (λ l _. absurd (omega (arith, ltb-false (received (i + 1)) 257 eq))))
+    go true true false ep eq es =
+        rw es (stays (λ _ t.
+        absurd (omega (arith, ltb-false (faults n) (times received (received (i + 1)) n) es, leb→le (faults n + 1) (times received (received (i + 1)) n) t))))
+
+-- two values came from different columns
+crowd : (received : ℕ → ℕ) (v w n : ℕ) → w < v → times received v n + times received w n ≤ n
+unfolding times
+crowd received v w n h =
+    omega (
+      arith,
+      count-not (λ j. eqb (received j) v) n,
+      mono (λ j. eqb (received j) w) (λ j. not (eqb (received j) v)) n (λ j _ _ t.
+          not-T (eqb (received j) v) (λ s. omega (arith, h, eqb→eq (received j) v s, eqb→eq (received j) w t))),
+    )
+
+-- a point that all but t columns sent leaves no room for another
+pub settled : (n : ℕ) (received : ℕ → ℕ) (best v c : ℕ) → 1 ≤ n → c ≡ weight n received best v → n ≤ c + faults n → v ≡ keptPoint n received
+unfolding weight often faults
+settled n received best v c l e h = go (ltb v best) (ltb v 257) refl refl (rw e at h)
+  where
+    few : 3 * faults n < n
+    few = omega arith
+
+    go : (p q : Bool) → ltb v best ≡ p → ltb v 257 ≡ q → n ≤ cond (p && q) (times received v n) 0 + faults n → v ≡ keptPoint n received
+    go false q ep eq k = absurd (omega (arith, few))
+    go true false ep eq k = absurd (omega (arith, few))
+    go true true ep eq k =
+        sym (kept-is n received v (ltb-true v 257 eq) (le→leb (faults n + 1) (times received v n) (omega (arith, few))) (λ w b t.
+        omega (arith, crowd received v w n b, leb→le (faults n + 1) (times received w n) t)))
 
 -- who was received often was received from some column
 seen : (n : ℕ) (received : ℕ → ℕ) (w : ℕ) → T (often n received w) → Found (λ j. eqb (received j) w) n

@@ -7,7 +7,7 @@ use Prim.Native.Nat.{ℕ, zero, suc, _+_, _-_, _*_, _≤_, _<_}
 use native.Mathlib.Omega.{arith}
 use borrow.Author.Tests.{lt-ltb, le-ltb, ne-eqb}
 use lib.Dec.{eqb, ltb}
-use lib.ListN.{length, getD, take, drop, replicate, List·getD-append}
+use lib.ListN.{length, getD, take, drop, replicate}
 use lib.Seq.{ext-getD, getD-take, length-take-le}
 use Rattle.lists.specs.Lists.{all, listOf, rowsOf}
 use Rattle.lists.specs.Entries.{length-listOf, getD-listOf, getD-within, listOf-same}
@@ -109,37 +109,25 @@ pub points-none : (n m : ℕ) (speaks : Bool) (bytes other : List ℕ) → speak
 unfolding toAll pointsToAll points spoken
 points-none n m speaks bytes other e = rw e refl
 
--- value k from column i + 1, of messages of b values, where `mine` stands at the own place
-unfoldable pub heardAt : ℕ → ℕ → ℕ → List ℕ → ℕ → ℕ → ℕ
-heardAt own mine b inbox k i = cond (eqb (i + 1) own) mine (getD inbox (i * b + k) 0)
+-- value k from column j, of messages of b values, where `mine` stands at the own place
+unfoldable pub heardOf : ℕ → ℕ → ℕ → List ℕ → ℕ → ℕ → ℕ
+heardOf own mine b inbox k j = cond (eqb j own) mine (getD inbox ((j - 1) * b + k) 0)
 
 -- the kept point of block k, by what the column would send itself
 unfoldable pub keptFrom : ℕ → ℕ → List ℕ → ℕ → List ℕ → ℕ → ℕ
 keptFrom n own mine b inbox k = cond (ltb k b) (keptPoint n (pointsIn own mine b inbox k)) blank
 
--- the values of the first n places were written
-pub said-front : (f : ℕ → ℕ) (n : ℕ) (rest all : List ℕ) → all ≡ listOf f n ++ rest → (i : ℕ) → i < n → said all i ≡ f i
-unfolding said
-said-front f n rest all e i h =
-    rw e (List·getD-append (listOf f n) rest blank i (omega (arith, length-listOf f n)) ∙ getD-listOf f n i blank h)
-
 module _ (n own : ℕ) (mine : List ℕ) (b : ℕ) (inbox : List ℕ) (k : ℕ) where
-  heard-at : (i : ℕ) → i * b + k < length inbox → heardAt own (said mine k) b inbox k i ≡ heard own mine b inbox (i + 1) k
-  unfolding heardAt heard
-  heard-at i h =
-      let row : i ≡ i + 1 - 1 = omega arith in
-      ap (λ (v : ℕ). cond (eqb (i + 1) own) (said mine k) v)
-      (getD-within inbox (i * b + k) 0 blank h ∙ ap (λ (j : ℕ). getD inbox (j * b + k) blank) row)
+  heard-of : (j : ℕ) → (j - 1) * b + k < length inbox → heardOf own (said mine k) b inbox k j ≡ heard own mine b inbox j k
+  unfolding heardOf heard
+  heard-of j h = ap (λ (v : ℕ). cond (eqb j own) (said mine k) v) (getD-within inbox ((j - 1) * b + k) 0 blank h)
 
-  -- of the values that n columns sent
-  pub kept-from : (came : List ℕ) → k < b → n * b ≡ length inbox → ((i : ℕ) → i < n → said came i ≡ heardAt own (said mine k) b inbox k i)
-      → keptPoint n (from came) ≡ keptFrom n own mine b inbox k
+  -- of the values as they came
+  pub kept-from : k < b → n * b ≡ length inbox → keptPoint n (heardOf own (said mine k) b inbox k) ≡ keptFrom n own mine b inbox k
   unfolding keptFrom pointsIn
-  kept-from came l long h =
-      rw (lt-ltb k b l) (kept-unread n (from came) (pointsIn own mine b inbox k) (λ j a u.
-      let place : j - 1 + 1 ≡ j = omega arith in
-      let i : j - 1 < n = omega arith in
-      ap readPoint (rw place at (from-place came (j - 1) ∙ h (j - 1) i ∙ heard-at (j - 1) (omega (arith, long, row-fits b (j - 1) n i))))))
+  kept-from l long =
+      rw (lt-ltb k b l) (kept-unread n (heardOf own (said mine k) b inbox k) (pointsIn own mine b inbox k) (λ j a u.
+      ap readPoint (heard-of j (omega (arith, long, row-fits b (j - 1) n (omega arith))))))
 
   pub kept-past : b ≤ k → blank ≡ keptFrom n own mine b inbox k
   unfolding keptFrom

@@ -3,14 +3,15 @@ use super::refusal;
 use super::silenced_unless;
 use field::Field;
 ghost use mathlib.Core.Path.{_≡_};
-ghost use mathlib.Core.Bool.{true};
-ghost use Prim.Native.Nat.{ℕ, _+_, _*_, _≤_, _<_};
+ghost use mathlib.Core.Bool.{true, cond};
+ghost use Prim.Native.Nat.{_+_, _*_, _≤_, _<_};
+ghost use lib.Dec.{ltb};
 ghost use lib.ListN.{length};
 ghost use Rattle.sizes.specs.Sizes.{blocks, refusal as refusalOfSizes};
-ghost use Rattle.messages.specs.Messages.{said, from, unlessRefused};
+ghost use Rattle.messages.specs.Messages.{unlessRefused, times as timesOf};
 ghost use Rattle.dissemination.specs.Dissemination.{pointsToAll, keptPoint, keptPoints, roundRefusal, kept as keptOf};
-ghost use Rattle.dissemination.specs.Kept.{better as betterOf};
-ghost use Rattle.dissemination.specs.Laws.{heardAt, keptFrom};
+ghost use Rattle.dissemination.specs.Kept.{weight as weightOf};
+ghost use Rattle.dissemination.specs.Laws.{heardOf, keptFrom};
 
 // What listening to the points answers: its refusal, 0 for none, and the kept point of each block, blank past the blocks; all blank
 // where it refuses.
@@ -49,37 +50,10 @@ pub fn send(n: u8, m: u8, speaks: bool, bytes: [u8; 32], out: &mut [u16]) -> u8
     0
 }
 
-// v if it is a point below the best so far that was received at least t + 1 times, else the best so far.
-fn better(n: u8, points: &[u16], best: u16, v: u16) -> u16
-    ensures { λ r. ⌜ r ≡ betterOf n (from (now (points .entry))) best v ⌝ }
-{
-    if best <= v {
-        return best;
-    }
-    if Field::MODULUS <= v {
-        return best;
-    }
-    if messages::times(n, points, v) <= sizes::faults(n) {
-        return best;
-    }
-    v
-}
-
-// The smallest point that was received at least t + 1 times, blank if none was.
-fn kept_point(n: u8, points: &[u16]) -> u16
-    ensures { λ r. ⌜ r ≡ keptPoint n (from (now (points .entry))) ⌝ }
-{
-    let mut best = 65535u16;
-    for i in 0..n {
-        best = better(n, points, best, messages::value(points, i as usize));
-    }
-    best
-}
-
 // Value k from column i + 1, of messages of b values; at its own place the column uses `mine`.
 fn heard_at(own: u8, mine: u16, b: u16, inbox: &[u16], k: u16, i: u8) -> u16
     requires { ⌜ (i ≤ 30) × (i * b + k < length (now inbox)) ⌝ }
-    ensures { λ r. ⌜ r ≡ heardAt own mine b (now (inbox .entry)) k i ⌝ }
+    ensures { λ r. ⌜ r ≡ heardOf own mine b (now (inbox .entry)) k (i + 1) ⌝ }
 {
     if i + 1 == own {
         return mine;
@@ -88,17 +62,58 @@ fn heard_at(own: u8, mine: u16, b: u16, inbox: &[u16], k: u16, i: u8) -> u16
     inbox[at]
 }
 
-// Value k from each of n columns, by column number.
-fn heard_in(n: u8, own: u8, mine: u16, b: u16, inbox: &[u16], k: u16) -> [u16; 32]
+// How many of n columns sent v as value k. It is counted where the values lie: most often one count settles the block.
+fn times(n: u8, own: u8, mine: u16, b: u16, inbox: &[u16], k: u16, v: u16) -> usize
     requires { ⌜ (n ≤ 31) × (k < b) × (n * b ≡ length (now inbox)) ⌝ }
-    ensures { λ r. ⌜ ((i : ℕ) → i < n → said r i ≡ heardAt own mine b (now (inbox .entry)) k i) ⌝ }
+    ensures { λ r. ⌜ r ≡ timesOf (heardOf own mine b (now (inbox .entry)) k) v n ⌝ }
 {
-    let mut values = [65535u16; 32];
+    let mut sum = 0usize;
     for i in 0..n {
-        let at = i as usize;
-        values[at] = heard_at(own, mine, b, inbox, k, i);
+        sum += messages::flag(heard_at(own, mine, b, inbox, k, i) == v) as usize;
     }
-    values
+    sum
+}
+
+// How often v was received, where it is a point below the best so far; else 0.
+fn weight(n: u8, own: u8, mine: u16, b: u16, inbox: &[u16], k: u16, best: u16, v: u16) -> usize
+    requires { ⌜ (n ≤ 31) × (k < b) × (n * b ≡ length (now inbox)) ⌝ }
+    ensures { λ r. ⌜ r ≡ weightOf n (heardOf own mine b (now (inbox .entry)) k) best v ⌝ }
+{
+    if best <= v {
+        return 0;
+    }
+    if Field::MODULUS <= v {
+        return 0;
+    }
+    times(n, own, mine, b, inbox, k, v)
+}
+
+// v if it was received more than t times, else the best so far.
+fn heavier(t: usize, c: usize, best: u16, v: u16) -> u16
+    ensures { λ r. ⌜ r ≡ cond (ltb t c) v best ⌝ }
+{
+    if t < c {
+        return v;
+    }
+    best
+}
+
+// The smallest point that was received at least t + 1 times, blank if none was. A point that all but t columns sent leaves no room for another.
+fn kept_point(n: u8, own: u8, mine: u16, b: u16, inbox: &[u16], k: u16) -> u16
+    requires { ⌜ (n ≤ 31) × (k < b) × (n * b ≡ length (now inbox)) ⌝ }
+    ensures { λ r. ⌜ r ≡ keptPoint n (heardOf own mine b (now (inbox .entry)) k) ⌝ }
+{
+    let t = sizes::faults(n);
+    let mut best = 65535u16;
+    for i in 0..n {
+        let v = heard_at(own, mine, b, inbox, k, i);
+        let c = weight(n, own, mine, b, inbox, k, best, v);
+        if n as usize <= c + t {
+            return v;
+        }
+        best = heavier(t, c, best, v);
+    }
+    best
 }
 
 // The kept point of block k, where `mine` is what the column would send itself; blank past the blocks. A value that is no point is never kept,
@@ -110,8 +125,8 @@ fn kept_at(n: u8, own: u8, mine: &[u16], b: u16, inbox: &[u16], k: u16) -> u16
     if b <= k {
         return Field::BLANK;
     }
-    let values = heard_in(n, own, messages::value(mine, k as usize), b, inbox, k);
-    kept_point(n, &values)
+    let own_value = messages::value(mine, k as usize);
+    kept_point(n, own, own_value, b, inbox, k)
 }
 
 // The kept points of all blocks.

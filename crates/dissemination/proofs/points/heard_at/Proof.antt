@@ -1,7 +1,10 @@
 -- `points::heard_at` meets its contract.
+use mathlib.Core.Path.{_≡_}
+use Prim.Native.Nat.{_+_, _-_}
+use native.Mathlib.Omega.{arith}
 use borrow.Author.Tests.{eq-eqb, ne-eqb}
 use borrow.Author.Needs.{needs}
-use Rattle.dissemination.specs.Laws.{heardAt}
+use Rattle.dissemination.specs.Laws.{heardOf}
 use Rattle.dissemination.proofs.points.heard_at.Statement.{statement}
 use Rattle.dissemination.proofs.points.heard_at.Tie as tie
 
@@ -9,7 +12,7 @@ add-if1 : tie.Need-add-if1
 add-if1 c = search needs
 
 returns : tie.Need-returns
-unfolding heardAt
+unfolding heardOf
 returns c = simp (eq-eqb _ _ (c .if1 .taken))
 
 place-requires : tie.Need-place-requires
@@ -22,8 +25,11 @@ shared-slice-read-result : tie.Need-shared-slice-read-result
 shared-slice-read-result c = search needs
 
 returns-2 : tie.Need-returns-2
-unfolding heardAt
-returns-2 c = simp (ne-eqb _ _ (c .before .before .if1 .left), c .before .place .ensures)
+unfolding heardOf
+returns-2 c =
+    let i = c .before .before .before .before .args .i in
+    let row : i + 1 - 1 ≡ i = omega arith in
+    simp (ne-eqb _ _ (c .before .before .if1 .left), c .before .place .ensures, row)
 
 pub heard-at-spec : {M : Type 1} → statement M
 heard-at-spec =

@@ -11,7 +11,7 @@ ghost use Rattle.lists.specs.Lists.{all};
 ghost use Rattle.field.specs.Field.{blank};
 ghost use Rattle.sizes.specs.Sizes.{outside};
 ghost use Rattle.sizes.specs.Laws.{InRange};
-ghost use Rattle.messages.specs.Messages.{readPoint};
+ghost use Rattle.messages.specs.Messages.{readPoint, said};
 ghost use Rattle.agreement.specs.Column.{stageFits, byteFits, flagFits, pointFits, namesFit, numbersFit, arraysFit, fits as fitsOf};
 
 // Whether a run of `last` rounds has the round.
@@ -108,6 +108,27 @@ fn points_fit(b: usize, kept: [u16; 32]) -> bool
     fit
 }
 
+// Whether nothing is kept.
+fn are_blank(kept: [u16; 32]) -> bool
+    ensures { λ r. ⌜ r ≡ all (λ k. eqb (said kept k) blank) 32 ⌝ }
+{
+    let mut blank = true;
+    for k in 0..32 {
+        blank = blank & (messages::value(&kept, k) == Field::BLANK);
+    }
+    blank
+}
+
+// Before the last rounds nothing is kept, and then no block is looked at.
+fn kept_fit(b: usize, kept: [u16; 32]) -> bool
+    ensures { λ r. ⌜ r ≡ all (pointFits b kept) 32 ⌝ }
+{
+    if are_blank(kept) {
+        return true;
+    }
+    points_fit(b, kept)
+}
+
 // The arrays of a state. None is left at the first entry out of its range: that would cost a branch at each.
 fn arrays_fit(column: Column) -> bool
     requires { ⌜ InRange (column .n) (column .m) ⌝ }
@@ -126,7 +147,7 @@ fn arrays_fit(column: Column) -> bool
         return false;
     }
     let kept = column.kept;
-    points_fit(sizes::blocks(column.n, column.m), kept)
+    kept_fit(sizes::blocks(column.n, column.m), kept)
 }
 
 // Whether every part of the state is in its range.

@@ -30,12 +30,12 @@ returns-3 c = simp (sym (c .before .before .before .before .before .before .befo
 blocks-requires : tie.Need-blocks-requires
 blocks-requires c κs = search needs
 
-points-fit-requires : tie.Need-points-fit-requires
-points-fit-requires c κs = search needs
+kept-fit-requires : tie.Need-kept-fit-requires
+kept-fit-requires c κs = search needs
 
 returns-4 : tie.Need-returns-4
 unfolding arraysFit
-returns-4 c = simp (sym (c .before .before .before .before .before .before .before .before .before .before .bytes-fit .ensures) ∙ not-false _ (c .before .before .before .before .before .before .before .before .before .if1 .left), sym (c .before .before .before .before .before .before .before .flags-fit .ensures) ∙ not-false _ (c .before .before .before .before .before .before .if2 .left), sym (c .before .before .before .before .flags-fit2 .ensures) ∙ not-false _ (c .before .before .before .if3 .left), c .points-fit .ensures, c .before .blocks2 .ensures)
+returns-4 c = simp (sym (c .before .before .before .before .before .before .before .before .before .before .bytes-fit .ensures) ∙ not-false _ (c .before .before .before .before .before .before .before .before .before .if1 .left), sym (c .before .before .before .before .before .before .before .flags-fit .ensures) ∙ not-false _ (c .before .before .before .before .before .before .if2 .left), sym (c .before .before .before .before .flags-fit2 .ensures) ∙ not-false _ (c .before .before .before .if3 .left), c .kept-fit .ensures, c .before .blocks2 .ensures)
 
 pub arrays-fit-spec : {M : Type 1} → statement M
 arrays-fit-spec =
@@ -48,5 +48,5 @@ arrays-fit-spec =
     flags-fit-requires-2
     returns-3
     blocks-requires
-    points-fit-requires
+    kept-fit-requires
     returns-4)

@@ -13,19 +13,27 @@ use agreement::Column;
 use agreement::Kind;
 use agreement::Stage;
 ghost use mathlib.Core.Path.{_≡_};
+ghost use Prim.Native.Nat.{_≤_};
 ghost use lib.ListN.{length};
+ghost use Rattle.sizes.specs.Sizes.{blocks as blocksOf};
 ghost use Rattle.messages.specs.Messages.{unlessRefused};
 ghost use Rattle.rounds.specs.Rounds.{width as widthOf, toColumns, roundRefusal, heardIn};
+
+// The blocks of a record, as values are counted.
+fn blocks(n: u8, m: u8) -> u16
+    ensures { λ r. ⌜ (r ≡ blocksOf n m) × (r ≤ 255) ⌝ }
+{
+    sizes::blocks(n, m) as u16
+}
 
 // The values of a message in a round of the kind.
 fn width(kind: Kind, n: u8, m: u8) -> u16
     ensures { λ r. ⌜ r ≡ widthOf n m kind ⌝ }
 {
-    let b = sizes::blocks(n, m) as u16;
     match kind {
-        Kind::Exchange => 2 * b,
-        Kind::Points => b,
-        Kind::KeptPoints => b,
+        Kind::Exchange => 2 * blocks(n, m),
+        Kind::Points => blocks(n, m),
+        Kind::KeptPoints => blocks(n, m),
         Kind::Post(_) => m as u16,
         _ => 1,
     }

@@ -1,8 +1,6 @@
 // Rounds 4 to 3t + 6 of an agreement: the king rule, three rounds a phase.
 use super::words::received;
-use super::words::word;
 use agreement::Column;
-use agreement::Kind;
 use agreement::Stage;
 ghost use mathlib.Core.Path.{_≡_};
 ghost use Rattle.agreement.specs.declared.Kind.the-variants.{Votes, Proposals, King};
@@ -12,7 +10,7 @@ ghost use Rattle.agreement.specs.Rounds.{kingSaid, hears};
 pub(super) fn hear_votes(column: Column, next: Stage, inbox: &[u16]) -> Column
     ensures { λ r. ⌜ r ≡ hears Votes next column (now (inbox .entry)) ⌝ }
 {
-    let votes = received(column, Kind::Votes, inbox);
+    let votes = received(column.n, column.own, column.vote as u16, inbox);
     Column {
         proposal: king::proposal(column.n, votes),
         stage: next,
@@ -24,7 +22,7 @@ pub(super) fn hear_votes(column: Column, next: Stage, inbox: &[u16]) -> Column
 pub(super) fn hear_proposals(column: Column, next: Stage, inbox: &[u16]) -> Column
     ensures { λ r. ⌜ r ≡ hears Proposals next column (now (inbox .entry)) ⌝ }
 {
-    let proposals = received(column, Kind::Proposals, inbox);
+    let proposals = received(column.n, column.own, column.proposal, inbox);
     let vote = king::settled(column.n, proposals, column.vote);
     Column {
         vote: vote,
@@ -38,7 +36,7 @@ pub(super) fn hear_proposals(column: Column, next: Stage, inbox: &[u16]) -> Colu
 fn king_said(column: Column, king: u8, inbox: &[u16]) -> u16
     ensures { λ r. ⌜ r ≡ kingSaid king column (now (inbox .entry)) ⌝ }
 {
-    let mine = [word(column, Kind::King(king))];
+    let mine = [king::word(king, column.own, column.vote)];
     messages::heard(column.own, &mine, 1, inbox, king, 0)
 }
 

@@ -1,7 +1,8 @@
 // Rounds 2 and 3 of an agreement, 3 and 4 of a posting: the reports, and the grade that the second ones give.
+use super::words::first_report;
 use super::words::received;
+use super::words::second_report;
 use agreement::Column;
-use agreement::Kind;
 use agreement::Stage;
 ghost use mathlib.Core.Path.{_≡_};
 ghost use Rattle.agreement.specs.declared.Kind.the-variants.{FirstReport, SecondReport};
@@ -11,7 +12,7 @@ ghost use Rattle.agreement.specs.Rounds.{firstVote, hears};
 pub(super) fn hear_first(column: Column, next: Stage, inbox: &[u16]) -> Column
     ensures { λ r. ⌜ r ≡ hears FirstReport next column (now (inbox .entry)) ⌝ }
 {
-    let values = received(column, Kind::FirstReport, inbox);
+    let values = received(column.n, column.own, first_report(column), inbox);
     let flags = dispersal::reports::received(column.n, values);
     Column {
         reports: flags,
@@ -34,7 +35,7 @@ fn first_vote(grade: u8) -> u8
 pub(super) fn hear_second(column: Column, next: Stage, inbox: &[u16]) -> Column
     ensures { λ r. ⌜ r ≡ hears SecondReport next column (now (inbox .entry)) ⌝ }
 {
-    let values = received(column, Kind::SecondReport, inbox);
+    let values = received(column.n, column.own, second_report(column), inbox);
     let agreements = column.agreements;
     let reports = column.reports;
     let grade = dispersal::reports::grade(column.n, column.own, agreements, reports, values);

@@ -4,16 +4,14 @@ use agreement::Column;
 use agreement::Kind;
 use field::Field;
 ghost use mathlib.Core.Path.{_≡_};
-ghost use mathlib.Core.Bool.{true};
+ghost use mathlib.Core.List.{[], _∷_};
 ghost use lib.ListN.{length};
-ghost use Rattle.messages.specs.Messages.{heardOfAll};
+ghost use Rattle.messages.specs.Messages.{toAll, toAllRefusal, heardOfAll};
 ghost use Rattle.agreement.specs.declared.Kind.the-variants.{FirstReport, SecondReport};
-ghost use Rattle.agreement.specs.Rounds.{message};
-ghost use Rattle.rounds.specs.Rounds.{toColumns};
-ghost use Rattle.rounds.specs.Ready.{Ready, hasOne, word as wordOf};
+ghost use Rattle.rounds.specs.Ready.{hasOne, word as wordOf};
 
 // The first report, from the agreements.
-fn first_report(column: Column) -> u16
+pub(super) fn first_report(column: Column) -> u16
     ensures { λ r. ⌜ r ≡ wordOf FirstReport column ⌝ }
 {
     let agreements = column.agreements;
@@ -21,7 +19,7 @@ fn first_report(column: Column) -> u16
 }
 
 // The second report, from the agreements and the first reports that came.
-fn second_report(column: Column) -> u16
+pub(super) fn second_report(column: Column) -> u16
     ensures { λ r. ⌜ r ≡ wordOf SecondReport column ⌝ }
 {
     let agreements = column.agreements;
@@ -43,20 +41,32 @@ pub(super) fn word(column: Column, kind: Kind) -> u16
     }
 }
 
-// Says it to all.
-pub(super) fn say(column: Column, kind: Kind, out: &mut [u16])
-    requires { ⌜ Ready kind column (length (now out)) × (hasOne kind ≡ true) ⌝ }
-    ensures { λ _. ⌜ now (out .exit) ≡ toColumns kind column ⌝ }
+// Whether messages of the kind have one value.
+pub(super) fn has_one(kind: Kind) -> bool
+    ensures { λ r. ⌜ r ≡ hasOne kind ⌝ }
 {
-    let mine = [word(column, kind)];
-    messages::to_all(column.n, 1, &mine, out);
+    match kind {
+        Kind::Exchange => false,
+        Kind::Points => false,
+        Kind::KeptPoints => false,
+        Kind::Post(_) => false,
+        _ => true,
+    }
 }
 
-// What it hears of all.
-pub(super) fn received(column: Column, kind: Kind, inbox: &[u16]) -> [u16; 31]
-    requires { ⌜ hasOne kind ≡ true ⌝ }
-    ensures { λ r. ⌜ r ≡ heardOfAll (column .n) (column .own) (message kind column (column .own)) 1 (now (inbox .entry)) 0 ⌝ }
+// Says a word to all.
+pub(super) fn say(n: u8, word: u16, out: &mut [u16])
+    requires { ⌜ toAllRefusal n 1 (length (now out)) ≡ 0 ⌝ }
+    ensures { λ _. ⌜ now (out .exit) ≡ toAll n 1 (word ∷ []) ⌝ }
 {
-    let mine = [word(column, kind)];
-    messages::heard_of_all(column.n, column.own, &mine, 1, inbox, 0)
+    let mine = [word];
+    messages::to_all(n, 1, &mine, out);
+}
+
+// What is heard of all, where `word` is the own.
+pub(super) fn received(n: u8, own: u8, word: u16, inbox: &[u16]) -> [u16; 31]
+    ensures { λ r. ⌜ r ≡ heardOfAll n own (word ∷ []) 1 (now (inbox .entry)) 0 ⌝ }
+{
+    let mine = [word];
+    messages::heard_of_all(n, own, &mine, 1, inbox, 0)
 }

@@ -2,11 +2,9 @@
 use mathlib.Core.Path.{_≡_, refl}
 use mathlib.Core.List.{[], _∷_}
 use Prim.Native.Nat.{ℕ}
-use native.Mathlib.Omega.{arith}
 use types.Run.{OneOf, miss}
 use denote.Enum.Declared.{tagOf}
 use borrow.Author.Needs.{needs}
-use Rattle.sizes.specs.Laws.{blocks-le}
 use Rattle.agreement.specs.declared.Kind.the-variants.{Exchange, FirstReport, SecondReport, Votes, Proposals, King, Points, KeptPoints, Post}
 use Rattle.agreement.specs.declared.Kind.{Kind}
 use Rattle.agreement.proofs.Kind.{the-type}
@@ -27,39 +25,41 @@ one-value n m Points h = absurd (miss (1 ∷ 2 ∷ 3 ∷ 4 ∷ 5 ∷ []) 6 tt h)
 one-value n m KeptPoints h = absurd (miss (1 ∷ 2 ∷ 3 ∷ 4 ∷ 5 ∷ []) 7 tt h)
 one-value n m (Post s) h = absurd (miss (1 ∷ 2 ∷ 3 ∷ 4 ∷ 5 ∷ []) 8 tt h)
 
-blocks-requires : tie.Need-blocks-requires
-blocks-requires c κs = search needs
-
-cast-b : tie.Need-cast-b
-cast-b c = record { fits = omega (arith, c .blocks2 .ensures, blocks-le (c .before .args .n) (c .before .args .m)) }
-
 enum-told : tie.Need-enum-told
 enum-told c = search needs
 
+blocks-requires : tie.Need-blocks-requires
+blocks-requires c κs = search needs
+
 mul-result : tie.Need-mul-result
-mul-result c =
-    record { fits = omega (arith, c .before .before .blocks2 .ensures, blocks-le (c .before .before .before .args .n) (c .before .before .before .args .m)) }
+mul-result c = search needs
 
 enum-told-2 : tie.Need-enum-told-2
 enum-told-2 c = search needs
 
+blocks-requires-2 : tie.Need-blocks-requires-2
+blocks-requires-2 c κs = search needs
+
 enum-told-3 : tie.Need-enum-told-3
 enum-told-3 c = search needs
+
+blocks-requires-3 : tie.Need-blocks-requires-3
+blocks-requires-3 c κs = search needs
 
 enum-told-4 : tie.Need-enum-told-4
 enum-told-4 c = search needs
 
 returns : tie.Need-returns
 unfolding width
-returns c = rw (c .enum-told .given .1, c .before .before .blocks2 .ensures) refl
+returns c = rw (c .before .enum-told .given .1, c .blocks2 .ensures .0) refl
 
 returns-2 : tie.Need-returns-2
 unfolding width
-returns-2 c = rw (c .enum-told2 .given .1, c .before .before .blocks2 .ensures) refl
+returns-2 c = rw (c .before .enum-told2 .given .1, c .blocks3 .ensures .0) refl
 
 returns-3 : tie.Need-returns-3
 unfolding width
-returns-3 c = rw (c .enum-told3 .given .1, c .before .before .blocks2 .ensures) refl
+returns-3 c = rw (c .before .enum-told3 .given .1, c .blocks4 .ensures .0) refl
 
 returns-4 : tie.Need-returns-4
 unfolding width
@@ -72,12 +72,13 @@ pub width-spec : {M : Type 1} → statement M
 width-spec =
     tie.close
     (tie.spec
-    blocks-requires
-    cast-b
     enum-told
+    blocks-requires
     mul-result
     enum-told-2
+    blocks-requires-2
     enum-told-3
+    blocks-requires-3
     enum-told-4
     returns
     returns-2

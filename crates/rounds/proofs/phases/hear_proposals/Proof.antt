@@ -3,14 +3,12 @@ use mathlib.Core.Path.{_≡_, refl}
 use borrow.Author.Needs.{needs}
 use Rattle.agreement.specs.declared.Kind.the-variants.{Proposals}
 use Rattle.agreement.specs.Parts.{withStage, withVote}
-use Rattle.agreement.specs.Rounds.{hears, received, resettled}
-use Rattle.rounds.specs.Ready.{hasOne}
+use Rattle.agreement.specs.Rounds.{hears, received, message, resettled}
 use Rattle.rounds.proofs.phases.hear_proposals.Statement.{statement}
 use Rattle.rounds.proofs.phases.hear_proposals.Tie as tie
 
 received-requires : tie.Need-received-requires
-unfolding hasOne
-received-requires c κs = refl
+received-requires c κs = search needs
 
 settled-requires : tie.Need-settled-requires
 settled-requires c κs = search needs
@@ -19,7 +17,7 @@ firm-requires : tie.Need-firm-requires
 firm-requires c κs = search needs
 
 returns : tie.Need-returns
-unfolding hears withStage received withVote resettled
+unfolding hears withStage received message withVote resettled
 returns c =
     let a = c .before .before .before .before .before .before .before .before .args in
     let vote = c .before .before .before .before .before .settled .result in

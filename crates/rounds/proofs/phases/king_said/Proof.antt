@@ -1,9 +1,7 @@
 -- `phases::king_said` meets its contract.
 use mathlib.Core.Path.{refl}
 use borrow.Author.Needs.{needs}
-use Rattle.messages.specs.Messages.{said}
 use Rattle.agreement.specs.Rounds.{kingSaid, message}
-use Rattle.rounds.specs.Ready.{word, hasOne}
 use Rattle.rounds.proofs.phases.king_said.Statement.{statement}
 use Rattle.rounds.proofs.phases.king_said.Tie as tie
 
@@ -17,7 +15,7 @@ heard-requires : tie.Need-heard-requires
 heard-requires c κs = search needs
 
 returns : tie.Need-returns
-unfolding kingSaid word hasOne message said
+unfolding kingSaid message
 returns c = rw (c .heard .ensures, c .before .before .word .ensures) refl
 
 pub king-said-spec : {M : Type 1} → statement M

@@ -1,15 +1,18 @@
 -- `reports::hear_second` meets its contract.
 use mathlib.Core.Path.{refl}
 use borrow.Author.Needs.{needs}
+use Rattle.messages.specs.Messages.{said}
 use Rattle.agreement.specs.Parts.{withStage, withGrade, withVote}
-use Rattle.agreement.specs.Rounds.{hears, received, graded}
-use Rattle.rounds.specs.Ready.{hasOne}
+use Rattle.agreement.specs.Rounds.{hears, received, message, graded}
+use Rattle.rounds.specs.Ready.{hasOne, word}
 use Rattle.rounds.proofs.reports.hear_second.Statement.{statement}
 use Rattle.rounds.proofs.reports.hear_second.Tie as tie
 
+second-report-requires : tie.Need-second-report-requires
+second-report-requires c κs = search needs
+
 received-requires : tie.Need-received-requires
-unfolding hasOne
-received-requires c κs = refl
+received-requires c κs = search needs
 
 grade-requires : tie.Need-grade-requires
 grade-requires c κs = search needs
@@ -18,10 +21,13 @@ first-vote-requires : tie.Need-first-vote-requires
 first-vote-requires c κs = search needs
 
 returns : tie.Need-returns
-unfolding hears withStage received withGrade withVote graded
-returns c = rw (c .before .before .before .before .first-vote .ensures, c .before .before .before .before .before .grade .ensures, c .before .before .before .before .before .before .before .before .received .ensures) refl
+unfolding hears withStage received withGrade withVote graded message hasOne word said
+returns c =
+    let g = c .before .before .before .before .before in
+    let r = g .before .before .before in
+    rw (c .before .before .before .before .first-vote .ensures, g .grade .ensures, r .received .ensures, r .before .second-report .ensures) refl
 
 pub hear-second-spec : {M : Type 1} → statement M
 hear-second-spec =
     tie.close
-    (tie.spec received-requires grade-requires first-vote-requires returns)
+    (tie.spec second-report-requires received-requires grade-requires first-vote-requires returns)

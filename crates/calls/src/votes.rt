@@ -28,18 +28,16 @@ fn vote_after(protocol: Protocol, before: u8, vote: u8) -> u8
 pub(super) fn voting(protocol: Protocol, column: Column) -> Column
     ensures { λ r. ⌜ r ≡ votingOf protocol column ⌝ }
 {
-    Column {
-        vote: vote_in(protocol, column.vote),
-        ..column
-    }
+    let mut voting = column;
+    voting.vote = vote_in(protocol, column.vote);
+    voting
 }
 
 // A column with the vote that it has after a round.
 pub(super) fn recast(protocol: Protocol, before: u8, column: Column) -> Column
     ensures { λ r. ⌜ r ≡ recastOf protocol before column ⌝ }
 {
-    Column {
-        vote: vote_after(protocol, before, column.vote),
-        ..column
-    }
+    let mut recast = column;
+    recast.vote = vote_after(protocol, before, column.vote);
+    recast
 }

@@ -11,7 +11,7 @@ vote-after-requires c κs = search needs
 
 returns : tie.Need-returns
 unfolding recast withVote
-returns c = rw (c .before .before .before .before .vote-after .ensures) refl
+returns c = rw (c .vote-after .ensures) refl
 
 pub recast-spec : {M : Type 1} → statement M
 recast-spec = tie.close (tie.spec vote-after-requires returns)

@@ -11,7 +11,7 @@ vote-in-requires c κs = search needs
 
 returns : tie.Need-returns
 unfolding voting withVote
-returns c = rw (c .before .before .before .before .vote-in .ensures) refl
+returns c = rw (c .vote-in .ensures) refl
 
 pub voting-spec : {M : Type 1} → statement M
 voting-spec = tie.close (tie.spec vote-in-requires returns)

@@ -5,8 +5,9 @@ ghost use mathlib.Core.Path.{_≡_};
 ghost use mathlib.Core.Bool.{true, cond};
 ghost use Prim.Native.Nat.{_+_, _*_, _≤_};
 ghost use lib.Dec.{eqb, leb};
-ghost use lib.ListN.{length, getD};
-ghost use Rattle.lists.specs.Lists.{bit};
+ghost use mathlib.Core.List.{_++_};
+ghost use lib.ListN.{length, getD, drop};
+ghost use Rattle.lists.specs.Lists.{bit, listOf};
 ghost use Rattle.messages.specs.Messages.{readPoint, readReport, readBit, readByte, said, from, word as wordOf, toAll, laid, written, put as putOf, refusal as refusalOf, unlessRefused, toAllRefusal, heard as heardOf, heardFrom, heardOfAll, times as timesOf};
 
 // A point, 0 to 256; any other value is blank.
@@ -111,17 +112,40 @@ pub fn refusal(why: u8, n: u8, w: u16, len: usize) -> u8
     4
 }
 
+// Writes w values of a message, of which some may not be there.
+fn write_past(w: u16, message: &[u16], part: &mut [u16])
+    requires { ⌜ w ≤ length (now part) ⌝ }
+    ensures { λ _. ⌜ now (part .exit) ≡ listOf (said (now (message .entry))) w ++ drop w (now (part .entry)) ⌝ }
+{
+    let all = w as usize;
+    for k in 0..all {
+        part[k] = value(message, k);
+    }
+}
+
+// Writes w values of a message that has them all.
+fn write_within(w: u16, message: &[u16], part: &mut [u16])
+    requires { ⌜ (w ≤ length (now message)) × (w ≤ length (now part)) ⌝ }
+    ensures { λ _. ⌜ now (part .exit) ≡ listOf (said (now (message .entry))) w ++ drop w (now (part .entry)) ⌝ }
+{
+    let all = w as usize;
+    for k in 0..all {
+        part[k] = message[k];
+    }
+}
+
 // Writes a message of w values to the front of a part of the outgoing slice; refused with 4 where there is no room for it.
 pub fn write(w: u16, message: &[u16], part: &mut [u16]) -> u8
     ensures { λ r. ⌜ (r ≡ cond (leb w (length (now (part .entry)))) 0 4) × (now (part .exit) ≡ written w (now (message .entry)) (now (part .entry))) ⌝ }
 {
-    let all = w as usize;
-    if part.len() < all {
+    if part.len() < w as usize {
         return 4;
     }
-    for k in 0..all {
-        part[k] = value(message, k);
+    if message.len() < w as usize {
+        write_past(w, message, part);
+        return 0;
     }
+    write_within(w, message, part);
     0
 }
 

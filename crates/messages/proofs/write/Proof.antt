@@ -1,64 +1,45 @@
 -- `write` meets its contract.
-use mathlib.Core.Path.{sym, _∙_}
-use Prim.Native.Nat.{_-_}
-use native.Mathlib.Omega.{arith}
+use borrow.Author.Needs.{needs}
 use borrow.Author.Tests.{le-leb, lt-leb}
-use Rattle.lists.specs.Loops.{Filled, filled-none, filled-more, filled-part}
+use mathlib.Core.Path.{sym, _∙_}
+use native.Mathlib.Omega.{arith}
 use Rattle.messages.specs.Laws.{written-fits, not-written}
-use Rattle.messages.specs.Messages.{said}
 use Rattle.messages.proofs.write.Statement.{statement}
 use Rattle.messages.proofs.write.Tie as tie
 
-abbrev Inv-loop : tie.InvT-loop
-Inv-loop w message part₀ all k₀ part k = Filled (said message) w part₀ part k
-
-abbrev μ-loop : tie.MeasureT-loop
-μ-loop w message part₀ all k₀ part k = w - k
-
-returns : tie.Need-returns Inv-loop μ-loop
+returns : tie.Need-returns
 returns c = (simp (lt-leb _ _ (c .if1 .taken)), sym (not-written _ _ _ (c .if1 .taken)))
 
-loop-holds : tie.Need-loop-holds Inv-loop μ-loop
-loop-holds c = filled-none _ _ _ (omega arith)
+write-past-requires : tie.Need-write-past-requires
+write-past-requires c κs = search needs
 
-value-requires : tie.Need-value-requires Inv-loop μ-loop
-value-requires c κs = tt
+same-length : tie.Need-same-length
+same-length c = search needs
 
-mul-part : tie.Need-mul-part Inv-loop μ-loop
-mul-part c = omega arith
+returns-2 : tie.Need-returns-2
+returns-2 c =
+    let fits = c .before .before .before .before .before .if1 .left in
+    (simp (le-leb _ _ fits), c .before .before .write-past .ensures ∙ sym (written-fits _ _ _ fits))
 
-slice-write-part : tie.Need-slice-write-part Inv-loop μ-loop
-slice-write-part c = omega arith
+write-within-requires : tie.Need-write-within-requires
+write-within-requires c κs = search needs
 
-add-k : tie.Need-add-k Inv-loop μ-loop
-add-k c = omega arith
+same-length-2 : tie.Need-same-length-2
+same-length-2 c = search needs
 
-loop-less : tie.Need-loop-less Inv-loop μ-loop
-loop-less c = omega arith
-
-loop-again : tie.Need-loop-again Inv-loop μ-loop
-loop-again c = filled-more _ _ _ _ _ _ (c .before .before .loop .inv) (omega arith) (c .value .ensures)
-
-same-length : tie.Need-same-length Inv-loop μ-loop
-same-length c = c .before .loop .inv .same
-
-returns-2 : tie.Need-returns-2 Inv-loop μ-loop
-returns-2 c = let l = c .before .before .if1 .left in
-    (simp (le-leb _ _ l), filled-part _ _ _ _ _ (c .before .loop .inv) (omega arith) ∙ sym (written-fits _ _ _ l))
+returns-3 : tie.Need-returns-3
+returns-3 c =
+    let fits = c .before .before .before .before .before .if1 .left in
+    (simp (le-leb _ _ fits), c .before .before .write-within .ensures ∙ sym (written-fits _ _ _ fits))
 
 pub write-spec : {M : Type 1} → statement M
 write-spec =
     tie.close
     (tie.spec
-    Inv-loop
-    μ-loop
     returns
-    loop-holds
-    value-requires
-    mul-part
-    slice-write-part
-    add-k
-    loop-less
-    loop-again
+    write-past-requires
     same-length
-    returns-2)
+    returns-2
+    write-within-requires
+    same-length-2
+    returns-3)

@@ -1,5 +1,5 @@
 -- Laws of a value: it is a number of the field; a part that starts past the end has the value 0; one coefficient more.
-use mathlib.Core.Path.{_≡_, refl, sym, ap}
+use mathlib.Core.Path.{_≡_, refl, ap}
 use mathlib.Core.List.{List, [], _∷_}
 use Prim.Native.Nat.{ℕ, zero, suc, _+_, _-_, _*_, _≤_, _<_}
 use native.Mathlib.Nat.{mod-lt, suc-add, add-suc, add-zero, le-of-suc-le-suc}
@@ -41,9 +41,9 @@ below-part b bytes from zero p h i = p
 below-part b bytes from (suc count) p h zero = h from
 below-part b bytes from (suc count) p h (suc i) = below-part b bytes (suc from) count p h i
 
-pub value-none : (bytes : List ℕ) (from x : ℕ) → value (part bytes from 0) x ≡ 0
+pub value-none : (bytes : List ℕ) (from count x : ℕ) → count ≡ 0 → value (part bytes from count) x ≡ 0
 unfolding part value
-value-none bytes from x = refl
+value-none bytes from count x e = rw e
 
 pub value-past : (bytes : List ℕ) (from count x : ℕ) → length bytes ≤ from → value (part bytes from count) x ≡ 0
 unfolding part value
@@ -58,13 +58,3 @@ value-more bytes from zero x z = absurd (z refl)
 value-more bytes from (suc count) x z =
     let e : suc count - 1 ≡ count = omega arith in
     rw (e, add-one)
-
--- one byte more, the last bytes first: the last i of the `count` bytes are in
-pub value-next : (bytes : List ℕ) (from count i x : ℕ) → i < count
-    → add (getD bytes (from + (count - 1 - i)) 0) (multiply x (value (part bytes (from + (count - i)) i) x))
-    ≡ value (part bytes (from + (count - (i + 1))) (i + 1)) x
-value-next bytes from count i x h =
-    let here : from + (count - 1 - i) ≡ from + (count - (i + 1)) = omega arith in
-    let rest : from + (count - i) ≡ from + (count - (i + 1)) + 1 = omega arith in
-    let less : i + 1 - 1 ≡ i = omega arith in
-    rw (here, rest) (rw less at (sym (value-more bytes (from + (count - (i + 1))) (i + 1) x (λ z. absurd (omega arith)))))

@@ -1,19 +1,19 @@
 -- The laws of codewords: a block's values at the points 1 to 32, byte after byte, the last one first.
 use mathlib.Core.Path.{_≡_, refl, sym, ap, ap₂, _∙_}
 use mathlib.Core.Bool.{cond}
-use mathlib.Core.List.{List, _++_}
+use mathlib.Core.List.{List, [], _∷_, _++_}
 use Prim.Native.Nat.{ℕ, zero, suc, _+_, _-_, _*_, _≤_, _<_}
+use native.Mathlib.Nat.{mod-lt, add-zero, add-suc, suc-add}
 use native.Mathlib.Decide.{decLt}
 use native.Mathlib.Omega.{arith}
 use borrow.Author.Tests.{lt-ltb, le-ltb, le-leb, lt-leb}
 use lib.Dec.{ltb, lit<}
 use lib.ListN.{length, drop, getD, replicate}
 use Rattle.lists.specs.Lists.{Below, listOf, rowsOf}
-use Rattle.lists.specs.Entries.{getD-listOf, listOf-same, below-listOf}
+use Rattle.lists.specs.Entries.{length-listOf, getD-listOf, listOf-getD, listOf-same, below-listOf}
 use Rattle.lists.specs.Rows.{length-rowsOf, rowsOf-same, inRow-rowsOf}
 use Rattle.field.specs.Field.{add, multiply, blank}
 use Rattle.block.specs.Block.{part, value}
-use Rattle.block.specs.Value.{value-lt, value-none, value-next}
 use Rattle.sizes.specs.Sizes.{degree, blocks}
 use Rattle.messages.specs.Messages.{said, written}
 use Rattle.messages.specs.Laws.{written-fits}
@@ -43,30 +43,67 @@ wordAt cs i = value cs (i + 1)
 unfoldable pub longerAt : ℕ → List ℕ → ℕ → ℕ
 longerAt byte rest i = add byte (multiply (i + 1) (getD rest i 0))
 
-pub word-below : (cs : List ℕ) → Below 257 (listOf (wordAt cs) 32)
-unfolding wordAt
-word-below cs = below-listOf 257 (wordAt cs) 32 (lit< tt) (λ i. value-lt cs (i + 1))
+-- with the values of the rest given
+unfoldable pub behind : List ℕ → ℕ → ℕ → ℕ
+behind [] x rest = rest
+behind (c ∷ cs) x rest = add c (multiply x (behind cs x rest))
+
+unfoldable pub beforeAt : List ℕ → List ℕ → ℕ → ℕ
+beforeAt cs rest i = behind cs (i + 1) (getD rest i 0)
+
+-- values at the points 1 to 32 as the code holds them
+pub record Word (l : List ℕ) : Type 0 where
+  pub size : length l ≡ 32
+  pub small : Below 257 l
+
+pub word-longer : (byte : ℕ) (rest : List ℕ) → Word (listOf (longerAt byte rest) 32)
+unfolding longerAt
+word-longer byte rest =
+    record {
+      size = length-listOf (longerAt byte rest) 32;
+      small = below-listOf 257 (longerAt byte rest) 32 (lit< tt) (λ i. mod-lt (byte + multiply (i + 1) (getD rest i 0)) (lit< tt));
+    }
+
+pub word-zeros : Word (replicate 32 0)
+unfolding listOf
+word-zeros = record { size = refl; small = below-listOf 257 (λ _. 0) 32 (lit< tt) (λ _. lit< tt) }
 
 -- an array of one value
 copies : (v : ℕ) → replicate 32 v ≡ listOf (λ _. v) 32
 unfolding listOf
 copies v = refl
 
-pub word-none : (bytes : List ℕ) (from : ℕ) → replicate 32 0 ≡ listOf (wordAt (part bytes from 0)) 32
-unfolding wordAt
-word-none bytes from = copies 0 ∙ listOf-same (λ _. 0) (wordAt (part bytes from 0)) 32 (λ i _. sym (value-none bytes from (i + 1)))
+-- no byte in front, and one
+pub before-none : (bytes : List ℕ) (from count : ℕ) (rest : List ℕ) → length rest ≡ 32 → count ≡ 0 → rest ≡ listOf (beforeAt (part bytes from count) rest) 32
+unfolding part behind beforeAt
+before-none bytes from count rest h e = rw e (sym (listOf-getD rest 32 0 h))
 
-pub word-next : (bytes : List ℕ) (from count i byte : ℕ) (rest : List ℕ) → i < count → byte ≡ getD bytes (from + (count - 1 - i)) 0
-    → rest ≡ listOf (wordAt (part bytes (from + (count - i)) i)) 32
-    → listOf (longerAt byte rest) 32 ≡ listOf (wordAt (part bytes (from + (count - (i + 1))) (i + 1))) 32
-unfolding longerAt wordAt
-word-next bytes from count i byte rest h e f =
-    rw (e, f)
-    (listOf-same (longerAt (getD bytes (from + (count - 1 - i)) 0) (listOf word 32)) (wordAt (part bytes (from + (count - (i + 1))) (i + 1))) 32 (λ p l.
-    rw (getD-listOf word 32 p 0 l) (value-next bytes from count i (p + 1) h)))
-  where
-    word : ℕ → ℕ
-    word = wordAt (part bytes (from + (count - i)) i)
+behind-last : (bytes : List ℕ) (from count x rest : ℕ)
+    → behind (part bytes from count) x (add (getD bytes (from + count) 0) (multiply x rest)) ≡ behind (part bytes from (suc count)) x rest
+unfolding part behind
+behind-last bytes from zero x rest = rw add-zero refl
+behind-last bytes from (suc count) x rest =
+    rw (add-suc, ← suc-add) (ap (λ (v : ℕ). add (getD bytes from 0) (multiply x v)) (behind-last bytes (suc from) count x rest))
+
+pub before-more : (bytes : List ℕ) (from count byte : ℕ) (rest next : List ℕ) → (count ≡ 0 → ⊥) → byte ≡ getD bytes (from + (count - 1)) 0
+    → next ≡ listOf (longerAt byte rest) 32 → listOf (beforeAt (part bytes from (count - 1)) next) 32 ≡ listOf (beforeAt (part bytes from count) rest) 32
+unfolding beforeAt longerAt
+before-more bytes from zero byte rest next z e f = absurd (z refl)
+before-more bytes from (suc count) byte rest next z e f =
+    let less : suc count - 1 ≡ count = omega arith in
+    rw (f, e, less) (listOf-same (beforeAt (part bytes from count) (listOf (longerAt (getD bytes (from + count) 0) rest) 32)) (beforeAt (part bytes from (suc count)) rest) 32 (λ i h.
+    rw (getD-listOf (longerAt (getD bytes (from + count) 0) rest) 32 i 0 h) (behind-last bytes from count (i + 1) (getD rest i 0))))
+
+behind-zero : (cs : List ℕ) (x : ℕ) → behind cs x 0 ≡ value cs x
+unfolding behind value
+behind-zero [] x = refl
+behind-zero (c ∷ cs) x = ap (λ (v : ℕ). add c (multiply x v)) (behind-zero cs x)
+
+-- a whole polynomial: nothing is behind it
+pub before-zeros : (cs : List ℕ) → listOf (beforeAt cs (replicate 32 0)) 32 ≡ listOf (wordAt cs) 32
+unfolding beforeAt wordAt
+before-zeros cs =
+    rw (copies 0) (listOf-same (beforeAt cs (listOf (λ _. 0) 32)) (wordAt cs) 32 (λ i h. rw (getD-listOf {A = ℕ} (λ _. 0) 32 i 0 h) (behind-zero cs (i + 1))))
 
 -- THE CODEWORDS OF A RECORD, with the sizes at hand
 

@@ -3,12 +3,12 @@ use field::Field;
 ghost use mathlib.Core.Path.{_≡_};
 ghost use Prim.Native.Nat.{_+_, _≤_, _<_};
 ghost use lib.ListN.{length};
-ghost use Rattle.lists.specs.Lists.{Below, listOf, rowsOf};
+ghost use Rattle.lists.specs.Lists.{listOf, rowsOf};
 ghost use Rattle.field.specs.Field.{add, multiply};
 ghost use Rattle.block.specs.Block.{part};
 ghost use Rattle.messages.specs.Messages.{laid};
 ghost use Rattle.codeword.specs.Codeword.{values as valuesOf, codewords as codewordsOf, writtenAcross};
-ghost use Rattle.codeword.specs.Words.{valueIn, longerAt, wordAt, rowAt};
+ghost use Rattle.codeword.specs.Words.{valueIn, Word, longerAt, beforeAt, wordAt, rowAt};
 
 // The value of block k, of b blocks of `size` bytes, at the point x; blank past the blocks.
 fn value(b: usize, size: usize, bytes: &[u8], x: u16, k: u8) -> u16
@@ -44,44 +44,52 @@ fn longer(byte: u8, x: u16, rest: u16) -> u16
     (byte as u16 + x * rest) % Field::MODULUS
 }
 
-// The values at the points 1 to 32 of a polynomial with one byte more in front.
-fn extend(byte: u8, rest: [u16; 32]) -> [u16; 32]
-    requires { ⌜ Below 257 rest ⌝ }
-    ensures { λ r. ⌜ r ≡ listOf (longerAt byte rest) 32 ⌝ }
+// One byte more in front of a polynomial: from its rest's values at the points 1 to 32 to its own.
+fn extend(byte: u8, word: &mut [u16; 32])
+    requires { ⌜ Word (now word) ⌝ }
+    ensures { λ _. ⌜ now (word .exit) ≡ listOf (longerAt byte (now (word .entry))) 32 ⌝ }
 {
-    let mut word = [0u16; 32];
     for i in 0..32 {
-        word[i] = longer(byte, i as u16 + 1, rest[i]);
+        word[i] = longer(byte, i as u16 + 1, word[i]);
     }
-    word
 }
 
-// The values at the points 1 to 32 of the block of `count` bytes that starts at `from`.
-fn codeword(bytes: &[u8], from: usize, count: usize) -> [u16; 32]
-    requires { ⌜ (from ≤ 65535) × (count ≤ 255) ⌝ }
+// The values at the points 1 to 32 of the block of `count` bytes that starts at `from`, by recursion over its coefficients: `word` has the values of
+// the rest behind them.
+fn evaluate(bytes: &[u8; 32], from: usize, count: u8, word: &mut [u16; 32])
+    requires { ⌜ (from ≤ 65535) × Word (now word) ⌝ }
+    ensures { λ _. ⌜ now (word .exit) ≡ listOf (beforeAt (part (now (bytes .entry)) from count) (now (word .entry))) 32 ⌝ }
+{
+    if count == 0 {
+        return;
+    }
+    extend(messages::byte(bytes, from + (count - 1) as usize), word);
+    evaluate(bytes, from, count - 1, word);
+}
+
+// The codeword of the block of `count` bytes that starts at `from`.
+fn codeword(bytes: &[u8; 32], from: usize, count: u8) -> [u16; 32]
+    requires { ⌜ from ≤ 65535 ⌝ }
     ensures { λ r. ⌜ r ≡ listOf (wordAt (part (now (bytes .entry)) from count)) 32 ⌝ }
 {
     let mut word = [0u16; 32];
-    for i in 0..count {
-        let next = extend(messages::byte(bytes, from + (count - 1 - i)), word);
-        word = next;
-    }
+    evaluate(bytes, from, count, &mut word);
     word
 }
 
 // The codeword of block k, of b blocks of `size` bytes; blank past the blocks.
-fn codeword_of(b: usize, size: usize, bytes: &[u8], k: usize) -> [u16; 32]
+fn codeword_of(b: usize, size: usize, bytes: &[u8; 32], k: usize) -> [u16; 32]
     requires { ⌜ (size ≤ 255) × (k ≤ 31) ⌝ }
     ensures { λ r. ⌜ r ≡ listOf (rowAt b size (now (bytes .entry)) (k + 1)) 32 ⌝ }
 {
     if b <= k {
         return [65535u16; 32];
     }
-    codeword(bytes, k * size, size)
+    codeword(bytes, k * size, size as u8)
 }
 
 // The codewords of 32 blocks, one behind the other.
-fn fill(b: usize, size: usize, bytes: &[u8], all: &mut [u16])
+fn fill(b: usize, size: usize, bytes: &[u8; 32], all: &mut [u16])
     requires { ⌜ (size ≤ 255) × (length (now all) ≡ 1024) ⌝ }
     ensures { λ _. ⌜ now (all .exit) ≡ rowsOf (rowAt b size (now (bytes .entry))) 32 32 ⌝ }
 {

@@ -20,9 +20,6 @@ add-fill c = record { fits = omega (arith, c .degree .ensures, degree-le (c .bef
 slice-aggregate-fill : tie.Need-slice-aggregate-fill
 slice-aggregate-fill c = search needs
 
-slice-aggregate-fill-2 : tie.Need-slice-aggregate-fill-2
-slice-aggregate-fill-2 c = search needs
-
 fill-requires : tie.Need-fill-requires
 fill-requires c κs = (omega (arith, c .before .before .degree .ensures, degree-le (c .before .before .before .before .args .n)), refl)
 
@@ -32,11 +29,4 @@ returns c = c .before .fill .ensures ∙ rows-are _ _ _ _ _ (c .before .before .
 pub codewords-spec : {M : Type 1} → statement M
 codewords-spec =
     tie.close
-    (tie.spec
-    blocks-requires
-    degree-requires
-    add-fill
-    slice-aggregate-fill
-    slice-aggregate-fill-2
-    fill-requires
-    returns)
+    (tie.spec blocks-requires degree-requires add-fill slice-aggregate-fill fill-requires returns)

@@ -1,19 +1,21 @@
 -- `extend` meets its contract.
-use Prim.Native.Nat.{_-_}
+use mathlib.Core.Path.{ap, _∙_}
+use Prim.Native.Nat.{ℕ, _+_, _-_}
 use native.Mathlib.Omega.{arith}
-use Rattle.lists.specs.Loops.{Filled, filled-none, filled-more, filled-done}
+use Rattle.lists.specs.Loops.{Filled, filled-none, filled-read, filled-more, filled-done}
+use Rattle.field.specs.Field.{add, multiply}
 use Rattle.codeword.specs.Words.{longerAt}
 use Rattle.codeword.proofs.extend.Statement.{statement}
 use Rattle.codeword.proofs.extend.Tie as tie
 
 abbrev Inv-loop : tie.InvT-loop
-Inv-loop byte rest word₀ i₀ word i = Filled (longerAt byte rest) 32 word₀ word i
+Inv-loop byte word₀ i₀ word i = Filled (longerAt byte word₀) 32 word₀ word i
 
 abbrev μ-loop : tie.MeasureT-loop
-μ-loop byte rest word₀ i₀ word i = 32 - i
+μ-loop byte word₀ i₀ word i = 32 - i
 
 loop-holds : tie.Need-loop-holds Inv-loop μ-loop
-loop-holds c = filled-none _ _ _ (omega arith)
+loop-holds c = filled-none _ _ _ (omega (arith, c .pre .size))
 
 cast-longer : tie.Need-cast-longer Inv-loop μ-loop
 cast-longer c = omega arith
@@ -24,17 +26,19 @@ add-longer c = omega arith
 mul-longer : tie.Need-mul-longer Inv-loop μ-loop
 mul-longer c = omega arith
 
-array-read-longer : tie.Need-array-read-longer Inv-loop μ-loop
-array-read-longer c = omega arith
+element-copy-out-longer : tie.Need-element-copy-out-longer Inv-loop μ-loop
+element-copy-out-longer c = omega arith
 
 longer-requires : tie.Need-longer-requires Inv-loop μ-loop
-longer-requires c κs = (omega arith, c .before .before .pre (c .before .loop .i))
+longer-requires c κs =
+    let l = c .before .before .loop in
+    (omega arith, rw (filled-read _ _ _ _ (l .i) 0 (l .inv)) (c .before .before .before .pre .small (l .i)))
 
 mul-word : tie.Need-mul-word Inv-loop μ-loop
 mul-word c = omega arith
 
-array-write-word : tie.Need-array-write-word Inv-loop μ-loop
-array-write-word c = omega arith
+element-write-word : tie.Need-element-write-word Inv-loop μ-loop
+element-write-word c = omega arith
 
 add-i : tie.Need-add-i Inv-loop μ-loop
 add-i c = omega arith
@@ -44,10 +48,13 @@ loop-less c = omega arith
 
 loop-again : tie.Need-loop-again Inv-loop μ-loop
 unfolding longerAt
-loop-again c = filled-more _ _ _ _ _ _ (c .before .before .loop .inv) (omega arith) (c .longer .ensures)
+loop-again c =
+    let l = c .before .before .before .loop in
+    filled-more _ _ _ _ _ _ (l .inv) (omega arith)
+    (c .longer .ensures ∙ ap (λ (v : ℕ). add (c .before .before .before .before .args .byte) (multiply (l .i + 1) v)) (filled-read _ _ _ _ (l .i) 0 (l .inv)))
 
 returns : tie.Need-returns Inv-loop μ-loop
-returns c = filled-done _ _ _ _ _ (c .before .loop .inv) (omega arith) (omega arith)
+returns c = filled-done _ _ _ _ _ (c .before .loop .inv) (omega arith) (omega (arith, c .before .before .pre .size))
 
 pub extend-spec : {M : Type 1} → statement M
 extend-spec =
@@ -59,10 +66,10 @@ extend-spec =
     cast-longer
     add-longer
     mul-longer
-    array-read-longer
+    element-copy-out-longer
     longer-requires
     mul-word
-    array-write-word
+    element-write-word
     add-i
     loop-less
     loop-again

@@ -15,13 +15,13 @@ abbrev μ-loop : tie.MeasureT-loop
 μ-loop b size bytes all₀ k₀ all k = 32 - k
 
 loop-holds : tie.Need-loop-holds Inv-loop μ-loop
-loop-holds c = rowed-none _ _ _ _ (omega (arith, c .before .before .pre .1))
+loop-holds c = rowed-none _ _ _ _ (omega (arith, c .before .pre .1))
 
 mul-at : tie.Need-mul-at Inv-loop μ-loop
 mul-at c = omega arith
 
 codeword-of-requires : tie.Need-codeword-of-requires Inv-loop μ-loop
-codeword-of-requires c κs = (c .before .before .before .before .pre .0, omega arith)
+codeword-of-requires c κs = (c .before .before .before .pre .0, omega arith)
 
 slice-aggregate-write : tie.Need-slice-aggregate-write Inv-loop μ-loop
 slice-aggregate-write c = search needs

@@ -3,10 +3,11 @@
 use field::Field;
 ghost use mathlib.Core.Path.{_≡_};
 ghost use mathlib.Core.Bool.{false, _&&_};
+ghost use Prim.Native.Nat.{_≤_, _<_};
 ghost use lib.ListN.{getD};
 ghost use Rattle.lists.specs.Lists.{bit, count};
 ghost use Rattle.messages.specs.Messages.{from};
-ghost use Rattle.dispersal.specs.Dispersal.{agrees, firstReport, reportAt, reports as reportsOf, reported, both as bothOf, secondQuorum, secondReport, grade as gradeOf};
+ghost use Rattle.dispersal.specs.Dispersal.{agrees, firstReport, reports as reportsOf, reported, both as bothOf, secondQuorum, secondReport, grade as gradeOf};
 
 // The flag at place i; false past the end.
 fn flag(flags: &[bool], i: usize) -> bool
@@ -52,24 +53,24 @@ pub fn first(n: u8, agreements: [bool; 31]) -> u16
     Field::BLANK
 }
 
-// Whether a first report came from column i + 1 of n.
-fn came(n: u8, values: &[u16], i: u8) -> bool
-    ensures { λ r. ⌜ r ≡ reportAt n (from (now (values .entry))) i ⌝ }
+// How many of n columns have a place among 31.
+fn places(n: u8) -> usize
+    ensures { λ r. ⌜ (r ≤ n) × (r ≤ 31) × (r < 31 → n ≤ r) ⌝ }
 {
-    if i < n {
-        return messages::read_report(messages::value(values, i as usize)) == 1;
+    if n < 31 {
+        return n as usize;
     }
-    false
+    31
 }
 
 // A flag for each column whose first report came, agreed with or not.
 pub fn received(n: u8, values: [u16; 31]) -> [bool; 31]
     ensures { λ r. ⌜ r ≡ reportsOf n (from values) ⌝ }
 {
+    let last = places(n);
     let mut flags = [false; 31];
-    for i in 0..31u8 {
-        let at = i as usize;
-        flags[at] = came(n, &values, i);
+    for i in 0..last {
+        flags[i] = messages::read_report(messages::value(&values, i)) == 1;
     }
     flags
 }

@@ -20,6 +20,37 @@ use Rattle.messages.specs.Laws.{written-fits}
 use Rattle.codeword.specs.Codeword.{point, values, codewordAt, codewords, across, writtenAcross}
 use Rattle.codeword.specs.Apart.{said-values, said-past}
 
+-- A VALUE, the last coefficient first
+
+-- the value of a polynomial at x with these coefficients in front, where the rest has the value `rest`
+unfoldable pub behind : List ℕ → ℕ → ℕ → ℕ
+behind [] x rest = rest
+behind (c ∷ cs) x rest = add c (multiply x (behind cs x rest))
+
+pub behind-none : (bytes : List ℕ) (from count x rest : ℕ) → count ≡ 0 → rest ≡ behind (part bytes from count) x rest
+unfolding part behind
+behind-none bytes from count x rest e = rw e refl
+
+behind-last : (bytes : List ℕ) (from count x rest : ℕ)
+    → behind (part bytes from count) x (add (getD bytes (from + count) 0) (multiply x rest)) ≡ behind (part bytes from (suc count)) x rest
+unfolding part behind
+behind-last bytes from zero x rest = rw add-zero refl
+behind-last bytes from (suc count) x rest =
+    rw (add-suc, ← suc-add) (ap (λ (v : ℕ). add (getD bytes from 0) (multiply x v)) (behind-last bytes (suc from) count x rest))
+
+pub behind-more : (bytes : List ℕ) (from count x rest : ℕ) → (count ≡ 0 → ⊥)
+    → behind (part bytes from (count - 1)) x (add (getD bytes (from + (count - 1)) 0) (multiply x rest)) ≡ behind (part bytes from count) x rest
+behind-more bytes from zero x rest z = absurd (z refl)
+behind-more bytes from (suc count) x rest z =
+    let less : suc count - 1 ≡ count = omega arith in
+    rw less (behind-last bytes from count x rest)
+
+-- nothing stands behind a whole polynomial
+pub behind-zero : (cs : List ℕ) (x : ℕ) → behind cs x 0 ≡ value cs x
+unfolding behind value
+behind-zero [] x = refl
+behind-zero (c ∷ cs) x = ap (λ (v : ℕ). add c (multiply x v)) (behind-zero cs x)
+
 -- A VALUE, with the sizes at hand
 
 unfoldable pub valueIn : ℕ → ℕ → List ℕ → ℕ → ℕ → ℕ
@@ -44,10 +75,6 @@ unfoldable pub longerAt : ℕ → List ℕ → ℕ → ℕ
 longerAt byte rest i = add byte (multiply (i + 1) (getD rest i 0))
 
 -- with the values of the rest given
-unfoldable pub behind : List ℕ → ℕ → ℕ → ℕ
-behind [] x rest = rest
-behind (c ∷ cs) x rest = add c (multiply x (behind cs x rest))
-
 unfoldable pub beforeAt : List ℕ → List ℕ → ℕ → ℕ
 beforeAt cs rest i = behind cs (i + 1) (getD rest i 0)
 
@@ -78,26 +105,12 @@ pub before-none : (bytes : List ℕ) (from count : ℕ) (rest : List ℕ) → le
 unfolding part behind beforeAt
 before-none bytes from count rest h e = rw e (sym (listOf-getD rest 32 0 h))
 
-behind-last : (bytes : List ℕ) (from count x rest : ℕ)
-    → behind (part bytes from count) x (add (getD bytes (from + count) 0) (multiply x rest)) ≡ behind (part bytes from (suc count)) x rest
-unfolding part behind
-behind-last bytes from zero x rest = rw add-zero refl
-behind-last bytes from (suc count) x rest =
-    rw (add-suc, ← suc-add) (ap (λ (v : ℕ). add (getD bytes from 0) (multiply x v)) (behind-last bytes (suc from) count x rest))
-
 pub before-more : (bytes : List ℕ) (from count byte : ℕ) (rest next : List ℕ) → (count ≡ 0 → ⊥) → byte ≡ getD bytes (from + (count - 1)) 0
     → next ≡ listOf (longerAt byte rest) 32 → listOf (beforeAt (part bytes from (count - 1)) next) 32 ≡ listOf (beforeAt (part bytes from count) rest) 32
 unfolding beforeAt longerAt
-before-more bytes from zero byte rest next z e f = absurd (z refl)
-before-more bytes from (suc count) byte rest next z e f =
-    let less : suc count - 1 ≡ count = omega arith in
-    rw (f, e, less) (listOf-same (beforeAt (part bytes from count) (listOf (longerAt (getD bytes (from + count) 0) rest) 32)) (beforeAt (part bytes from (suc count)) rest) 32 (λ i h.
-    rw (getD-listOf (longerAt (getD bytes (from + count) 0) rest) 32 i 0 h) (behind-last bytes from count (i + 1) (getD rest i 0))))
-
-behind-zero : (cs : List ℕ) (x : ℕ) → behind cs x 0 ≡ value cs x
-unfolding behind value
-behind-zero [] x = refl
-behind-zero (c ∷ cs) x = ap (λ (v : ℕ). add c (multiply x v)) (behind-zero cs x)
+before-more bytes from count byte rest next z e f =
+    rw (f, e) (listOf-same (beforeAt (part bytes from (count - 1)) (listOf (longerAt (getD bytes (from + (count - 1)) 0) rest) 32)) (beforeAt (part bytes from count) rest) 32 (λ i h.
+    rw (getD-listOf (longerAt (getD bytes (from + (count - 1)) 0) rest) 32 i 0 h) (behind-more bytes from count (i + 1) (getD rest i 0) z)))
 
 -- a whole polynomial: nothing is behind it
 pub before-zeros : (cs : List ℕ) → listOf (beforeAt cs (replicate 32 0)) 32 ≡ listOf (wordAt cs) 32

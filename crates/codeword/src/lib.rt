@@ -8,18 +8,31 @@ ghost use Rattle.field.specs.Field.{add, multiply};
 ghost use Rattle.block.specs.Block.{part};
 ghost use Rattle.messages.specs.Messages.{laid};
 ghost use Rattle.codeword.specs.Codeword.{values as valuesOf, codewords as codewordsOf, writtenAcross};
-ghost use Rattle.codeword.specs.Words.{valueIn, Word, longerAt, beforeAt, wordAt, rowAt};
+ghost use Rattle.codeword.specs.Words.{behind, valueIn, Word, longerAt, beforeAt, wordAt, rowAt};
+
+// The value at x of the block of `count` bytes that starts at `from`, by recursion over its coefficients: `rest` is the value of what stands behind
+// them.
+fn point(bytes: &[u8; 32], from: usize, count: u8, x: u16, rest: u16) -> u16
+    requires { ⌜ from ≤ 65535 ⌝ }
+    ensures { λ r. ⌜ r ≡ behind (part (now (bytes .entry)) from count) x rest ⌝ }
+{
+    if count == 0 {
+        return rest;
+    }
+    let byte = messages::byte(bytes, from + (count - 1) as usize);
+    let v = Field::add_product(Field(byte as u16), Field(x), Field(rest));
+    point(bytes, from, count - 1, x, v.0)
+}
 
 // The value of block k, of b blocks of `size` bytes, at the point x; blank past the blocks.
-fn value(b: usize, size: usize, bytes: &[u8], x: u16, k: u8) -> u16
+fn value(b: usize, size: usize, bytes: &[u8; 32], x: u16, k: u8) -> u16
     requires { ⌜ size ≤ 255 ⌝ }
     ensures { λ r. ⌜ r ≡ valueIn b size (now (bytes .entry)) x k ⌝ }
 {
     if b <= k as usize {
         return Field::BLANK;
     }
-    let v = block::value(bytes, (k as usize) * size, size as u8, Field(x));
-    v.0
+    point(bytes, (k as usize) * size, size as u8, x, 0)
 }
 
 // The values of a record of m bytes at the point x, one for each block; blank past the blocks.

@@ -2,7 +2,6 @@
 use mathlib.Core.Path.{ap, _∙_}
 use Prim.Native.Nat.{ℕ, _+_, _-_}
 use native.Mathlib.Omega.{arith}
-use borrow.Author.Needs.{needs}
 use Rattle.lists.specs.Loops.{Filled, filled-none, filled-more, filled-done}
 use Rattle.sizes.specs.Laws.{degree-le}
 use Rattle.messages.specs.Messages.{said, laid}
@@ -31,9 +30,6 @@ loop-holds c = filled-none _ _ _ (omega arith)
 
 cast-at : tie.Need-cast-at Inv-loop μ-loop
 cast-at c = omega arith
-
-slice-aggregate-value : tie.Need-slice-aggregate-value Inv-loop μ-loop
-slice-aggregate-value c = search needs
 
 value-requires : tie.Need-value-requires Inv-loop μ-loop
 value-requires c κs = omega (arith, c .before .before .before .degree .ensures, degree-le (c .before .before .before .before .before .args .n))
@@ -68,7 +64,6 @@ values-spec =
     add-size
     loop-holds
     cast-at
-    slice-aggregate-value
     value-requires
     mul-all
     array-write-all

@@ -47,7 +47,7 @@ unfoldable pub across : List ℕ → ℕ → ℕ → ℕ
 across words i k = getD words (32 * k + i) 0
 
 -- what stands in a part of the outgoing slice after what b codewords have at place i was written to its front; it stays as it was where there is
--- no room, no such place or no so many codewords
+-- no room, no such place or not so many codewords
 unfoldable pub writtenAcross : ℕ → List ℕ → ℕ → List ℕ → List ℕ
 writtenAcross b words i part =
     cond (leb b (length part) && ltb i 32 && leb (32 * b) (length words)) (listOf (across words i) b ++ drop b part) part

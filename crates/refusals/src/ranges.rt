@@ -73,14 +73,14 @@ fn bytes_fit(m: u8, bytes: [u8; 32]) -> bool
     fit
 }
 
-// Past n no flag is set.
-fn flags_fit(n: u8, flags: [bool; 31]) -> bool
+// Past n no flag is set, of agreements and reports.
+fn flags_fit(n: u8, agreements: [bool; 31], reports: [bool; 31]) -> bool
     requires { ⌜ n ≤ 31 ⌝ }
-    ensures { λ r. ⌜ r ≡ all (flagFits n flags) 31 ⌝ }
+    ensures { λ r. ⌜ r ≡ all (flagFits n agreements) 31 && all (flagFits n reports) 31 ⌝ }
 {
     let mut fit = true;
     for i in n as usize..31 {
-        fit = fit & !flags[i];
+        fit = fit & (!agreements[i] & !reports[i]);
     }
     fit
 }
@@ -139,11 +139,8 @@ fn arrays_fit(column: Column) -> bool
         return false;
     }
     let agreements = column.agreements;
-    if !flags_fit(column.n, agreements) {
-        return false;
-    }
     let reports = column.reports;
-    if !flags_fit(column.n, reports) {
+    if !flags_fit(column.n, agreements, reports) {
         return false;
     }
     let kept = column.kept;

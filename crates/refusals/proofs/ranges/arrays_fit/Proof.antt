@@ -14,18 +14,11 @@ unfolding arraysFit
 returns c = simp (sym (c .before .bytes-fit .ensures) ∙ not-true _ (c .if1 .taken))
 
 flags-fit-requires : tie.Need-flags-fit-requires
-flags-fit-requires c κs = c .before .before .before .before .pre .columns-high
+flags-fit-requires c κs = c .before .before .before .before .before .pre .columns-high
 
 returns-2 : tie.Need-returns-2
 unfolding arraysFit
-returns-2 c = simp (sym (c .before .before .before .before .bytes-fit .ensures) ∙ not-false _ (c .before .before .before .if1 .left), sym (c .before .flags-fit .ensures) ∙ not-true _ (c .if2 .taken))
-
-flags-fit-requires-2 : tie.Need-flags-fit-requires-2
-flags-fit-requires-2 c κs = c .before .before .before .before .before .before .before .pre .columns-high
-
-returns-3 : tie.Need-returns-3
-unfolding arraysFit
-returns-3 c = simp (sym (c .before .before .before .before .before .before .before .bytes-fit .ensures) ∙ not-false _ (c .before .before .before .before .before .before .if1 .left), sym (c .before .before .before .before .flags-fit .ensures) ∙ not-false _ (c .before .before .before .if2 .left), sym (c .before .flags-fit2 .ensures) ∙ not-true _ (c .if3 .taken))
+returns-2 c = simp (sym (c .before .before .before .before .before .bytes-fit .ensures) ∙ not-false _ (c .before .before .before .before .if1 .left), sym (c .before .flags-fit .ensures) ∙ not-true _ (c .if2 .taken))
 
 blocks-requires : tie.Need-blocks-requires
 blocks-requires c κs = search needs
@@ -33,9 +26,9 @@ blocks-requires c κs = search needs
 kept-fit-requires : tie.Need-kept-fit-requires
 kept-fit-requires c κs = search needs
 
-returns-4 : tie.Need-returns-4
+returns-3 : tie.Need-returns-3
 unfolding arraysFit
-returns-4 c = simp (sym (c .before .before .before .before .before .before .before .before .before .before .bytes-fit .ensures) ∙ not-false _ (c .before .before .before .before .before .before .before .before .before .if1 .left), sym (c .before .before .before .before .before .before .before .flags-fit .ensures) ∙ not-false _ (c .before .before .before .before .before .before .if2 .left), sym (c .before .before .before .before .flags-fit2 .ensures) ∙ not-false _ (c .before .before .before .if3 .left), c .kept-fit .ensures, c .before .blocks2 .ensures)
+returns-3 c = simp (sym (c .before .before .before .before .before .before .before .before .bytes-fit .ensures) ∙ not-false _ (c .before .before .before .before .before .before .before .if1 .left), sym (c .before .before .before .before .flags-fit .ensures) ∙ not-false _ (c .before .before .before .if2 .left), c .kept-fit .ensures, c .before .blocks2 .ensures)
 
 pub arrays-fit-spec : {M : Type 1} → statement M
 arrays-fit-spec =
@@ -45,8 +38,6 @@ arrays-fit-spec =
     returns
     flags-fit-requires
     returns-2
-    flags-fit-requires-2
-    returns-3
     blocks-requires
     kept-fit-requires
-    returns-4)
+    returns-3)

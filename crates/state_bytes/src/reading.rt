@@ -24,16 +24,28 @@ pub(super) fn stage(stage: u8, round: u8) -> Stage
     Stage::Ended(Outcome::Record)
 }
 
+// The first 170 bytes of fewer, with zeros past the end.
+fn padded(state: &[u8]) -> [u8; 170]
+    ensures { λ r. ⌜ r ≡ listOf (λ i. getD (now (state .entry)) i 0) 170 ⌝ }
+{
+    let mut all = [0u8; 170];
+    for i in 0..170 {
+        all[i] = messages::byte(state, i);
+    }
+    all
+}
+
 // The first 170 bytes, with zeros past the end: what is read of them needs no test of the length.
 pub(super) fn whole(state: &[u8]) -> [u8; 170]
     ensures { λ r. ⌜ r ≡ listOf (λ i. getD (now (state .entry)) i 0) 170 ⌝ }
 {
-    let mut all = [0u8; 170];
     if state.len() < 170 {
-        messages::put(state, &mut all);
-        return all;
+        return padded(state);
     }
-    messages::put(&state[..170], &mut all);
+    let mut all = [0u8; 170];
+    for i in 0..170 {
+        all[i] = state[i];
+    }
     all
 }
 

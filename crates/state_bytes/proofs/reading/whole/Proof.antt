@@ -1,41 +1,57 @@
 -- `reading::whole` meets its contract.
-use mathlib.Core.Path.{sym, _∙_}
+use mathlib.Core.Path.{refl}
+use Prim.Native.Nat.{_-_}
 use native.Mathlib.Omega.{arith}
-use borrow.Author.Needs.{needs}
-use lib.Seq.{length-take-le}
-use Rattle.state_bytes.specs.Whole.{whole-short, whole-long}
+use lib.ListN.{getD}
+use Rattle.lists.specs.Loops.{Filled, filled-none, filled-more, filled-done}
 use Rattle.state_bytes.proofs.reading.whole.Statement.{statement}
 use Rattle.state_bytes.proofs.reading.whole.Tie as tie
 
-slice-aggregate-put : tie.Need-slice-aggregate-put
-slice-aggregate-put c = search needs
+abbrev Inv-loop : tie.InvT-loop
+Inv-loop state all₀ i₀ all i = Filled (λ p. getD state p 0) 170 all₀ all i
 
-put-requires : tie.Need-put-requires
-put-requires c κs = search needs
+abbrev μ-loop : tie.MeasureT-loop
+μ-loop state all₀ i₀ all i = 170 - i
 
-returns : tie.Need-returns
-returns c = c .before .put .ensures .1 ∙ whole-short _ (omega arith)
+padded-requires : tie.Need-padded-requires Inv-loop μ-loop
+padded-requires c κs = tt
 
-slice-aggregate-put-2 : tie.Need-slice-aggregate-put-2
-slice-aggregate-put-2 c = sym (length-take-le 170 (c .before .before .before .args .state .now) (omega arith))
+returns : tie.Need-returns Inv-loop μ-loop
+returns c = c .padded .ensures
 
-slice-aggregate-put-3 : tie.Need-slice-aggregate-put-3
-slice-aggregate-put-3 c = search needs
+loop-holds : tie.Need-loop-holds Inv-loop μ-loop
+loop-holds c = filled-none _ _ _ (omega arith)
 
-put-requires-2 : tie.Need-put-requires-2
-put-requires-2 c κs = search needs
+shared-slice-read-all : tie.Need-shared-slice-read-all Inv-loop μ-loop
+shared-slice-read-all c = omega arith
 
-returns-2 : tie.Need-returns-2
-returns-2 c = c .before .put2 .ensures .1 ∙ whole-long (c .before .before .before .before .before .before .args .state .now) (omega arith)
+array-write-all : tie.Need-array-write-all Inv-loop μ-loop
+array-write-all c = omega arith
+
+add-i : tie.Need-add-i Inv-loop μ-loop
+add-i c = omega arith
+
+loop-less : tie.Need-loop-less Inv-loop μ-loop
+loop-less c = omega arith
+
+loop-again : tie.Need-loop-again Inv-loop μ-loop
+loop-again c = filled-more _ _ _ _ _ _ (c .before .before .loop .inv) (omega arith) refl
+
+returns-2 : tie.Need-returns-2 Inv-loop μ-loop
+returns-2 c = filled-done _ _ _ _ _ (c .before .loop .inv) (omega arith) (omega arith)
 
 pub whole-spec : {M : Type 1} → statement M
 whole-spec =
     tie.close
     (tie.spec
-    slice-aggregate-put
-    put-requires
+    Inv-loop
+    μ-loop
+    padded-requires
     returns
-    slice-aggregate-put-2
-    slice-aggregate-put-3
-    put-requires-2
+    loop-holds
+    shared-slice-read-all
+    array-write-all
+    add-i
+    loop-less
+    loop-again
     returns-2)

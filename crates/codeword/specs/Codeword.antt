@@ -42,6 +42,10 @@ codewordAt n m bytes row i = said (values n m bytes (i + 1)) (row - 1)
 unfoldable pub codewords : ℕ → ℕ → List ℕ → List ℕ
 codewords n m bytes = rowsOf (codewordAt n m bytes) 32 32
 
+-- in a slice of 1024 places; one of another length stays as it was
+unfoldable pub codewordsIn : ℕ → ℕ → List ℕ → List ℕ → List ℕ
+codewordsIn n m bytes before = cond (eqb (length before) 1024) (codewords n m bytes) before
+
 -- what codeword k has at place i
 unfoldable pub across : List ℕ → ℕ → ℕ → ℕ
 across words i k = getD words (32 * k + i) 0

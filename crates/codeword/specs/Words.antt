@@ -6,7 +6,7 @@ use Prim.Native.Nat.{ℕ, zero, suc, _+_, _-_, _*_, _≤_, _<_}
 use native.Mathlib.Nat.{mod-lt, add-zero, add-suc, suc-add}
 use native.Mathlib.Decide.{decLt}
 use native.Mathlib.Omega.{arith}
-use borrow.Author.Tests.{lt-ltb, le-ltb, le-leb, lt-leb}
+use borrow.Author.Tests.{lt-ltb, le-ltb, le-leb, lt-leb, eq-eqb, ne-eqb}
 use lib.Dec.{ltb, lit<}
 use lib.ListN.{length, drop, getD, replicate}
 use Rattle.lists.specs.Lists.{Below, listOf, rowsOf}
@@ -17,7 +17,7 @@ use Rattle.block.specs.Block.{part, value}
 use Rattle.sizes.specs.Sizes.{degree, blocks}
 use Rattle.messages.specs.Messages.{said, written}
 use Rattle.messages.specs.Laws.{written-fits}
-use Rattle.codeword.specs.Codeword.{point, values, codewordAt, codewords, across, writtenAcross}
+use Rattle.codeword.specs.Codeword.{point, values, codewordAt, codewords, codewordsIn, across, writtenAcross}
 use Rattle.codeword.specs.Apart.{said-values, said-past}
 
 -- A VALUE, the last coefficient first
@@ -148,6 +148,15 @@ pub rows-are : (n m b size : ℕ) (bytes : List ℕ) → b ≡ blocks n m → si
 unfolding codewords codewordAt rowAt
 rows-are n m b size bytes e f =
     rowsOf-same (rowAt b size bytes) (codewordAt n m bytes) 32 32 (λ row i. value-in n m b size bytes (i + 1) (row - 1) e f)
+
+module _ (n m : ℕ) (bytes before : List ℕ) where
+  pub codewords-in : length before ≡ 1024 → codewordsIn n m bytes before ≡ codewords n m bytes
+  unfolding codewordsIn
+  codewords-in h = simp (eq-eqb (length before) 1024 h)
+
+  pub codewords-not : (length before ≡ 1024 → ⊥) → before ≡ codewordsIn n m bytes before
+  unfolding codewordsIn
+  codewords-not h = simp (ne-eqb (length before) 1024 h)
 
 -- ACROSS THEM
 

@@ -7,7 +7,7 @@ ghost use Rattle.lists.specs.Lists.{listOf, rowsOf};
 ghost use Rattle.field.specs.Field.{add, multiply};
 ghost use Rattle.block.specs.Block.{part};
 ghost use Rattle.messages.specs.Messages.{laid};
-ghost use Rattle.codeword.specs.Codeword.{values as valuesOf, codewords as codewordsOf, writtenAcross};
+ghost use Rattle.codeword.specs.Codeword.{values as valuesOf, codewordsIn, writtenAcross};
 ghost use Rattle.codeword.specs.Words.{behind, valueIn, Word, longerAt, beforeAt, wordAt, rowAt};
 
 // The value at x of the block of `count` bytes that starts at `from`, by recursion over its coefficients: `rest` is the value of what stands behind
@@ -113,13 +113,15 @@ fn fill(b: usize, size: usize, bytes: &[u8; 32], all: &mut [u16])
     }
 }
 
-// The codewords of a record of m bytes: of each block its values at the points 1 to 32; blank past the blocks.
-pub fn codewords(n: u8, m: u8, bytes: [u8; 32]) -> [u16; 1024]
-    ensures { λ r. ⌜ r ≡ codewordsOf n m bytes ⌝ }
+// Writes the codewords of a record of m bytes to 1024 places: of each block its values at the points 1 to 32; blank past the blocks. A slice of another
+// length stays as it was.
+pub fn codewords(n: u8, m: u8, bytes: [u8; 32], all: &mut [u16])
+    ensures { λ _. ⌜ now (all .exit) ≡ codewordsIn n m bytes (now (all .entry)) ⌝ }
 {
-    let mut all = [65535u16; 1024];
-    fill(sizes::blocks(n, m), sizes::degree(n) + 1, &bytes, &mut all);
-    all
+    if all.len() != 1024 {
+        return;
+    }
+    fill(sizes::blocks(n, m), sizes::degree(n) + 1, &bytes, all);
 }
 
 // Writes what b codewords have at place i to the front of a part of the outgoing slice; nothing where there is no room for it, and nothing where

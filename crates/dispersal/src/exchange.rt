@@ -32,7 +32,8 @@ fn send_all(n: u8, m: u8, own: u8, bytes: [u8; 32], out: &mut [u16])
     ensures { λ _. ⌜ now (out .exit) ≡ exchanges n m own bytes ⌝ }
 {
     let b = sizes::blocks(n, m) as u16;
-    let words = codeword::codewords(n, m, bytes);
+    let mut words = [65535u16; 1024];
+    codeword::codewords(n, m, bytes, &mut words);
     for j in 0..n {
         let at = messages::place(j, 2 * b, 0);
         send_one(b, &words, own, j + 1, &mut out[at..]);
@@ -108,7 +109,8 @@ fn flags(n: u8, m: u8, own: u8, bytes: [u8; 32], inbox: &[u16]) -> [bool; 31]
     ensures { λ r. ⌜ r ≡ agreementsOf n m own bytes (now (inbox .entry)) ⌝ }
 {
     let b = sizes::blocks(n, m) as u16;
-    let words = codeword::codewords(n, m, bytes);
+    let mut words = [65535u16; 1024];
+    codeword::codewords(n, m, bytes, &mut words);
     let mut all = [false; 31];
     for i in 0..31u8 {
         let at = i as usize;

@@ -26,7 +26,8 @@ fn send_all(n: u8, m: u8, bytes: [u8; 32], out: &mut [u16])
     ensures { λ _. ⌜ now (out .exit) ≡ pointsToAll n m true bytes ⌝ }
 {
     let b = sizes::blocks(n, m) as u16;
-    let words = codeword::codewords(n, m, bytes);
+    let mut words = [65535u16; 1024];
+    codeword::codewords(n, m, bytes, &mut words);
     for j in 0..n {
         let at = messages::place(j, b, 0);
         codeword::write(b, &words, j, &mut out[at..]);

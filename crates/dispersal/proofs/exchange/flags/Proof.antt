@@ -1,11 +1,11 @@
 -- `exchange::flags` meets its contract.
-use mathlib.Core.Path.{_∙_}
+use mathlib.Core.Path.{refl, _∙_}
 use Prim.Native.Nat.{_-_}
 use native.Mathlib.Omega.{arith}
 use borrow.Author.Needs.{needs}
 use Rattle.lists.specs.Loops.{Filled, filled-none, filled-more, filled-done}
 use Rattle.sizes.specs.Laws.{blocks-le, accepted, few-blocks}
-use Rattle.codeword.specs.Words.{length-codewords}
+use Rattle.codeword.specs.Words.{codewords-in, length-codewords}
 use Rattle.dispersal.specs.Laws.{agreesAcross, agreements-are}
 use Rattle.dispersal.proofs.exchange.flags.Statement.{statement}
 use Rattle.dispersal.proofs.exchange.flags.Tie as tie
@@ -22,6 +22,9 @@ blocks-requires c κs = tt
 cast-b : tie.Need-cast-b Inv-loop μ-loop
 cast-b c = record { fits = omega (arith, c .blocks2 .ensures, blocks-le (c .before .before .args .n) (c .before .before .args .m)) }
 
+slice-aggregate-codewords : tie.Need-slice-aggregate-codewords Inv-loop μ-loop
+slice-aggregate-codewords c = search needs
+
 codewords-requires : tie.Need-codewords-requires Inv-loop μ-loop
 codewords-requires c κs = tt
 
@@ -36,15 +39,15 @@ slice-aggregate-agreement-at c = search needs
 
 agreement-at-requires : tie.Need-agreement-at-requires Inv-loop μ-loop
 agreement-at-requires c κs =
-    let s = c .before .before .before .before .before .before in
+    let s = c .before .before .before .before .before .before .before .before in
     let a = accepted (s .args .n) (s .args .m) (s .args .own) (s .pre .0) in
     let few = few-blocks (s .args .n) (s .args .m) (s .args .own) (s .pre .0) in
-    let b = c .before .before .before .before .blocks2 .ensures in (
+    let b = c .before .before .before .before .before .before .blocks2 .ensures in (
       a .range .columns-high,
       omega (arith, few, b),
       a .number-low,
       omega (arith, a .number-high, a .range .columns-high),
-      rw (c .before .before .before .codewords .ensures, length-codewords (s .args .n) (s .args .m) (s .args .bytes)) (omega (arith, few, b)),
+      rw (c .before .before .before .before .codewords .ensures, codewords-in (s .args .n) (s .args .m) (s .args .bytes) _ refl, length-codewords (s .args .n) (s .args .m) (s .args .bytes)) (omega (arith, few, b)),
       rw b (s .pre .1),
       omega arith,
     )
@@ -62,7 +65,7 @@ loop-again : tie.Need-loop-again Inv-loop μ-loop
 loop-again c = filled-more _ _ _ _ _ _ (c .before .before .before .loop .inv) (omega arith) (c .agreement-at .ensures)
 
 returns : tie.Need-returns Inv-loop μ-loop
-returns c = filled-done _ _ _ _ _ (c .before .loop .inv) (omega arith) (omega arith) ∙ agreements-are _ _ _ _ _ _ _ (c .before .before .before .before .before .pre .0) (c .before .before .before .before .before .pre .1) (c .before .before .before .blocks2 .ensures) (c .before .before .codewords .ensures)
+returns c = filled-done _ _ _ _ _ (c .before .loop .inv) (omega arith) (omega arith) ∙ agreements-are _ _ _ _ _ _ _ (c .before .before .before .before .before .before .before .pre .0) (c .before .before .before .before .before .before .before .pre .1) (c .before .before .before .before .before .blocks2 .ensures) (c .before .before .before .codewords .ensures ∙ codewords-in _ _ _ _ refl)
 
 pub flags-spec : {M : Type 1} → statement M
 flags-spec =
@@ -72,6 +75,7 @@ flags-spec =
     μ-loop
     blocks-requires
     cast-b
+    slice-aggregate-codewords
     codewords-requires
     loop-holds
     cast-at

@@ -1,11 +1,11 @@
 -- `points::send_all` meets its contract.
-use mathlib.Core.Path.{_∙_}
+use mathlib.Core.Path.{refl, _∙_}
 use Prim.Native.Nat.{_-_}
 use native.Mathlib.Omega.{arith}
 use borrow.Author.Needs.{needs}
 use Rattle.lists.specs.Loops.{Rowed, rowed-none, rowed-fits, rowed-more, rowed-room, rowed-done}
 use Rattle.sizes.specs.Laws.{blocks-le, accepted, few-blocks}
-use Rattle.codeword.specs.Words.{length-codewords}
+use Rattle.codeword.specs.Words.{codewords-in, length-codewords}
 use Rattle.dissemination.specs.Laws.{pointsAcross, across-row, points-are}
 use Rattle.dissemination.proofs.points.send_all.Statement.{statement}
 use Rattle.dissemination.proofs.points.send_all.Tie as tie
@@ -22,11 +22,14 @@ blocks-requires c κs = tt
 cast-b : tie.Need-cast-b Inv-loop μ-loop
 cast-b c = record { fits = omega (arith, c .blocks2 .ensures, blocks-le (c .before .before .args .n) (c .before .before .args .m)) }
 
+slice-aggregate-codewords : tie.Need-slice-aggregate-codewords Inv-loop μ-loop
+slice-aggregate-codewords c = search needs
+
 codewords-requires : tie.Need-codewords-requires Inv-loop μ-loop
 codewords-requires c κs = tt
 
 loop-holds : tie.Need-loop-holds Inv-loop μ-loop
-loop-holds c = rowed-none _ _ _ _ (rw (c .before .blocks2 .ensures) (c .before .before .before .pre .1))
+loop-holds c = rowed-none _ _ _ _ (rw (c .before .before .before .blocks2 .ensures) (c .before .before .before .before .before .pre .1))
 
 place-requires : tie.Need-place-requires Inv-loop μ-loop
 place-requires c κs = tt
@@ -35,7 +38,7 @@ slice-aggregate-write : tie.Need-slice-aggregate-write Inv-loop μ-loop
 slice-aggregate-write c = search needs
 
 mul-write : tie.Need-mul-write Inv-loop μ-loop
-mul-write c = omega (arith, c .before .place .ensures, rowed-fits _ _ _ _ _ _ (c .before .before .before .loop .inv) (omega arith), c .before .before .before .before .before .before .before .good)
+mul-write c = omega (arith, c .before .place .ensures, rowed-fits _ _ _ _ _ _ (c .before .before .before .loop .inv) (omega arith), c .before .before .before .before .before .before .before .before .before .good)
 
 sub-write : tie.Need-sub-write Inv-loop μ-loop
 sub-write c = omega (arith, c .before .place .ensures, rowed-fits _ _ _ _ _ _ (c .before .before .before .loop .inv) (omega arith))
@@ -57,21 +60,21 @@ loop-less c = omega arith
 
 loop-again : tie.Need-loop-again Inv-loop μ-loop
 loop-again c =
-    let s = c .before .before .before .before .before .before .before .before .before .before .before in
+    let s = c .before .before .before .before .before .before .before .before .before .before .before .before .before in
     let few = few-blocks (s .args .n) (s .args .m) 1 (s .pre .0) in
-    let b = c .before .before .before .before .before .before .before .before .before .blocks2 .ensures in
+    let b = c .before .before .before .before .before .before .before .before .before .before .before .blocks2 .ensures in
     let at = c .before .before .before .before .before .place .ensures in
     let i = c .before .before .before .before .before .before .before .loop .inv in
     rowed-more _ _ _ _ _ _ _ _ i (omega arith) (omega (arith, at))
     (c .before .before .write .ensures
     ∙ across-row _ _ _ _ (rowed-room _ _ _ _ _ _ _ i (omega arith) (omega (arith, at))) (omega (arith, accepted (s .args .n) (s .args .m) 1 (s .pre .0) .range .columns-high))
-    (rw (c .before .before .before .before .before .before .before .before .codewords .ensures, length-codewords (s .args .n) (s .args .m) (s .args .bytes)) (omega (arith, few, b))))
+    (rw (c .before .before .before .before .before .before .before .before .before .codewords .ensures, codewords-in (s .args .n) (s .args .m) (s .args .bytes) _ refl, length-codewords (s .args .n) (s .args .m) (s .args .bytes)) (omega (arith, few, b))))
 
 same-length : tie.Need-same-length Inv-loop μ-loop
 same-length c = c .before .loop .inv .same
 
 returns : tie.Need-returns Inv-loop μ-loop
-returns c = rowed-done _ _ _ _ _ _ (c .before .loop .inv) (omega arith) ∙ points-are _ _ _ _ _ (c .before .before .before .before .before .pre .0) (c .before .before .before .blocks2 .ensures) (c .before .before .codewords .ensures)
+returns c = rowed-done _ _ _ _ _ _ (c .before .loop .inv) (omega arith) ∙ points-are _ _ _ _ _ (c .before .before .before .before .before .before .before .pre .0) (c .before .before .before .before .before .blocks2 .ensures) (c .before .before .before .codewords .ensures ∙ codewords-in _ _ _ _ refl)
 
 pub send-all-spec : {M : Type 1} → statement M
 send-all-spec =
@@ -81,6 +84,7 @@ send-all-spec =
     μ-loop
     blocks-requires
     cast-b
+    slice-aggregate-codewords
     codewords-requires
     loop-holds
     place-requires

@@ -36,6 +36,13 @@ place-le sheet round to j n m l o t h =
     let lines : u * columns sheet ≤ 65025 = mul-le-mul {n₁ = u} {m₁ = columns sheet} {n₂ = 255} {m₂ = 255} (omega (arith, count-le (unsound sheet) j)) n in
     omega (arith, arrays-le (columns sheet) (bytes sheet) n m, mul-le-mul {n₁ = u * columns sheet + to} {m₁ = round .line} {n₂ = 65280} {m₂ = 65535} (omega (arith, lines)) l)
 
+-- the places of the lines to column `to` + 1, as a loop over the columns needs them
+pub record Lying (sheet : List ℕ) (round : Round) (to first step : ℕ) : Type 0 where
+  pub first-is : first ≡ place sheet round to (unsoundTo sheet 0)
+  pub step-is : step ≡ 2 * (columns sheet * (round .line))
+  pub step-most : step ≤ 17179869184
+  pub most : (j : ℕ) → j ≤ 255 → place sheet round to (unsoundTo sheet j) ≤ 17179869184
+
 -- value k of the round stands 2 k bytes further on
 pub place-value : (sheet : List ℕ) (round : Round) (to u k : ℕ) → word sheet (place sheet round to u + 2 * k) ≡ lineValue (round .line) sheet u (to + 1) (round .offset + k)
 unfolding place lineValue

@@ -7,9 +7,9 @@ ghost use lib.Dec.{eqb};
 ghost use lib.ListN.{length, drop};
 ghost use Rattle.lists.specs.Lists.{bit, listOf};
 ghost use Rattle.messages.specs.Messages.{refusal, unlessRefused, word};
-ghost use Rattle.sheet.specs.Sheet.{columns, sound as soundOf, unsoundTo, arrays};
+ghost use Rattle.sheet.specs.Sheet.{columns, sound as soundOf, unsoundTo};
 ghost use Rattle.delivery.specs.Delivery.{mailed as mailedOf, sent as sentOf, inbox as inboxOf};
-ghost use Rattle.delivery.specs.Places.{place as placeOf};
+ghost use Rattle.delivery.specs.Places.{place as placeOf, Lying};
 
 // A round: how many values a line has for each receiver, how many of them belong to earlier rounds, and the values of one message.
 pub struct Round {
@@ -70,11 +70,22 @@ fn copy(
     copy_line(sheet, place, round.width, part);
 }
 
-// Where the first unsound column's values for column `to` + 1 begin, in a sheet of n columns and m bytes: the lines follow n records.
-fn first_place(n: u8, m: u8, round: Round, to: u8) -> usize
-    ensures { λ r. ⌜ r ≡ arrays n m + 2 * (to * (round .line) + round .offset) ⌝ }
+// Where the first unsound column's values for one receiver begin in the sheet, and how far apart those of two unsound columns lie.
+struct Lines {
+    place: usize,
+    step: usize,
+}
+
+// The lines to column `to` + 1: they follow n records, and each unsound column has n of them.
+fn lines_to(sheet: &[u8], round: Round, to: u8) -> Lines
+    ensures { λ r. ⌜ Lying (now (sheet .entry)) round to (r .place) (r .step) ⌝ }
 {
-    sheet::record_place(n, m, n) + 2 * messages::place(to, round.line, round.offset)
+    let n = sheet::columns(sheet);
+    let m = sheet::bytes(sheet);
+    Lines {
+        place: sheet::record_place(n, m, n) + 2 * messages::place(to, round.line, round.offset),
+        step: 2 * messages::place(n, round.line, 0),
+    }
 }
 
 // Where those of the next begin, after a column with this mark.
@@ -94,8 +105,9 @@ fn deliver_messages(sheet: &[u8], round: Round, mail: &[u16], to: u8, inbox: &mu
     ensures { λ _. ⌜ now (inbox .exit) ≡ inboxOf (now (sheet .entry)) round (now (mail .entry)) (to + 1) ⌝ }
 {
     let n = sheet::columns(sheet);
-    let step = 2 * messages::place(n, round.line, 0);
-    let mut place = first_place(n, sheet::bytes(sheet), round, to);
+    let lines = lines_to(sheet, round, to);
+    let step = lines.step;
+    let mut place = lines.place;
     for j in 0..n {
         let at = messages::place(j, round.width, 0);
         let mark = sheet::mark(sheet, j + 1);
@@ -139,8 +151,9 @@ fn deliver_words(sheet: &[u8], round: Round, mail: &[u16], to: u8, inbox: &mut [
     ensures { λ _. ⌜ now (inbox .exit) ≡ inboxOf (now (sheet .entry)) round (now (mail .entry)) (to + 1) ⌝ }
 {
     let n = sheet::columns(sheet);
-    let step = 2 * messages::place(n, round.line, 0);
-    let mut place = first_place(n, sheet::bytes(sheet), round, to);
+    let lines = lines_to(sheet, round, to);
+    let step = lines.step;
+    let mut place = lines.place;
     for j in 0..n {
         let at = j as usize;
         let mark = sheet::mark(sheet, j + 1);

@@ -1,15 +1,14 @@
 -- `deliver_messages` meets its contract.
 use borrow.Author.Needs.{needs}
-use mathlib.Core.Path.{_≡_, refl, ap, _∙_}
+use mathlib.Core.Path.{_≡_, ap, _∙_}
 use Prim.Native.Nat.{ℕ, _+_, _-_, _*_, _≤_}
-use native.Mathlib.Nat.{mul-le-mul}
 use native.Mathlib.Omega.{arith}
 use lib.Dec.{eqb}
 use Rattle.lists.specs.Lists.{rowsOf}
 use Rattle.lists.specs.Loops.{Rowed, rowed-none, rowed-fits, rowed-more, rowed-room, rowed-done}
-use Rattle.sheet.specs.Sheet.{columns, bytes, mark, unsoundTo}
+use Rattle.sheet.specs.Sheet.{columns, mark, unsoundTo}
 use Rattle.delivery.specs.Delivery.{sent, inbox}
-use Rattle.delivery.specs.Places.{place, place-first, place-next, place-le, sound-mark}
+use Rattle.delivery.specs.Places.{place, place-next, sound-mark}
 use Rattle.delivery.proofs.deliver_messages.Statement.{statement}
 use Rattle.delivery.proofs.deliver_messages.Tie as tie
 
@@ -22,27 +21,17 @@ abbrev μ-loop : tie.MeasureT-loop
 columns-requires : tie.Need-columns-requires Inv-loop μ-loop
 columns-requires c κs = search needs
 
-place-requires : tie.Need-place-requires Inv-loop μ-loop
-place-requires c κs = search needs
-
-mul-step : tie.Need-mul-step Inv-loop μ-loop
-mul-step c = omega (arith, c .place .ensures, mul-le-mul {n₁ = c .before .columns .result} {m₁ = c .before .before .before .before .before .args .round .line} {n₂ = 255} {m₂ = 65535} (omega arith) (omega arith))
-
-bytes-requires : tie.Need-bytes-requires Inv-loop μ-loop
-bytes-requires c κs = search needs
-
-first-place-requires : tie.Need-first-place-requires Inv-loop μ-loop
-first-place-requires c κs = search needs
+lines-to-requires : tie.Need-lines-to-requires Inv-loop μ-loop
+lines-to-requires c κs = search needs
 
 loop-holds : tie.Need-loop-holds Inv-loop μ-loop
 loop-holds c =
-    let s = c .before .before .before .before .before .before .before in
-    let n = c .before .before .before .columns in
-    let first : c .first-place .result ≡ place (s .args .sheet .now) (s .args .round) (s .args .to) (unsoundTo (s .args .sheet .now) 0) = rw (place-first, c .first-place .ensures, c .before .bytes .ensures, n .ensures) refl in
-    (rowed-none _ _ _ _ (ap (λ (k : ℕ). k * (s .args .round .width)) (n .ensures) ∙ s .pre), first, rw first (place-le _ _ _ 0 (omega (arith, n .ensures)) (omega (arith, c .before .bytes .ensures)) (omega arith) (omega arith) (omega arith) (omega arith)))
+    let s = c .before .before .before .before .before in
+    let lying = c .lines-to .ensures in
+    (rowed-none _ _ _ _ (ap (λ (k : ℕ). k * (s .args .round .width)) (c .before .columns .ensures) ∙ s .pre), lying .first-is, rw (lying .first-is) (lying .most 0 (omega arith)))
 
-place-requires-2 : tie.Need-place-requires-2 Inv-loop μ-loop
-place-requires-2 c κs = search needs
+place-requires : tie.Need-place-requires Inv-loop μ-loop
+place-requires c κs = search needs
 
 add-mark : tie.Need-add-mark Inv-loop μ-loop
 add-mark c = search needs
@@ -51,13 +40,13 @@ mark-requires : tie.Need-mark-requires Inv-loop μ-loop
 mark-requires c κs = search needs
 
 mul-copy : tie.Need-mul-copy Inv-loop μ-loop
-mul-copy c = omega (arith, c .before .place2 .ensures, rowed-fits _ _ _ _ _ _ (c .before .before .before .loop .inv .0) (omega arith), c .before .before .before .before .before .before .before .before .before .before .before .good)
+mul-copy c = omega (arith, c .before .place .ensures, rowed-fits _ _ _ _ _ _ (c .before .before .before .loop .inv .0) (omega arith), c .before .before .before .before .before .before .before .before .before .good)
 
 sub-copy : tie.Need-sub-copy Inv-loop μ-loop
-sub-copy c = omega (arith, c .before .place2 .ensures, rowed-fits _ _ _ _ _ _ (c .before .before .before .loop .inv .0) (omega arith))
+sub-copy c = omega (arith, c .before .place .ensures, rowed-fits _ _ _ _ _ _ (c .before .before .before .loop .inv .0) (omega arith))
 
 part-copy-start : tie.Need-part-copy-start Inv-loop μ-loop
-part-copy-start c = omega (arith, c .before .place2 .ensures, rowed-fits _ _ _ _ _ _ (c .before .before .before .loop .inv .0) (omega arith))
+part-copy-start c = omega (arith, c .before .place .ensures, rowed-fits _ _ _ _ _ _ (c .before .before .before .loop .inv .0) (omega arith))
 
 part-copy-end : tie.Need-part-copy-end Inv-loop μ-loop
 part-copy-end c = omega arith
@@ -65,11 +54,11 @@ part-copy-end c = omega arith
 copy-requires : tie.Need-copy-requires Inv-loop μ-loop
 copy-requires c κs =
     let l = c .before .before .before .before .loop in
-    let n = c .before .before .before .before .before .before .before .before .columns in
-    (ap (λ (v : ℕ). eqb v 0) (c .before .mark .ensures) ∙ sound-mark _ _ (omega (arith, n .ensures)), l .inv .1, l .inv .2, rowed-room _ _ _ _ _ _ _ (l .inv .0) (omega arith) (omega (arith, c .before .before .place2 .ensures)))
+    let n = c .before .before .before .before .before .before .columns in
+    (ap (λ (v : ℕ). eqb v 0) (c .before .mark .ensures) ∙ sound-mark _ _ (omega (arith, n .ensures)), l .inv .1, l .inv .2, rowed-room _ _ _ _ _ _ _ (l .inv .0) (omega arith) (omega (arith, c .before .before .place .ensures)))
 
 next-place-requires : tie.Need-next-place-requires Inv-loop μ-loop
-next-place-requires c κs = (c .before .before .before .before .before .before .before .loop .inv .2, omega (arith, c .before .before .before .before .before .before .before .before .before .before .place .ensures, mul-le-mul {n₁ = c .before .before .before .before .before .before .before .before .before .before .before .columns .result} {m₁ = c .before .before .before .before .before .before .before .before .before .before .before .before .before .before .before .args .round .line} {n₂ = 255} {m₂ = 65535} (omega arith) (omega arith)))
+next-place-requires c κs = (c .before .before .before .before .before .before .before .loop .inv .2, c .before .before .before .before .before .before .before .before .lines-to .ensures .step-most)
 
 add-j : tie.Need-add-j Inv-loop μ-loop
 add-j c = search needs
@@ -79,12 +68,11 @@ loop-less c = search needs
 
 loop-again : tie.Need-loop-again Inv-loop μ-loop
 loop-again c =
-    let s = c .before .before .before .before .before .before .before .before .before .before .before .before .before .before .before .before in
-    let n = c .before .before .before .before .before .before .before .before .before .before .before .before .columns in
+    let s = c .before .before .before .before .before .before .before .before .before .before .before .before .before .before in
     let l = c .before .before .before .before .before .before .before .before .loop in
-    let lines : c .before .before .before .before .before .before .before .before .before .before .before .place .result ≡ n .result * (s .args .round .line) = omega (arith, c .before .before .before .before .before .before .before .before .before .before .before .place .ensures) in
-    let next : c .next-place .result ≡ place (s .args .sheet .now) (s .args .round) (s .args .to) (unsoundTo (s .args .sheet .now) (l .j + 1)) = c .next-place .ensures ∙ rw (l .inv .1, c .before .before .before .before .before .mark .ensures, lines, n .ensures) (place-next _ _ _ _) in
-    (rowed-more _ _ _ _ _ _ _ _ (l .inv .0) (omega arith) (omega (arith, c .before .before .before .before .before .before .place2 .ensures)) (c .before .before .before .copy .ensures), next, rw next (place-le _ _ _ _ (omega (arith, n .ensures)) (omega (arith, c .before .before .before .before .before .before .before .before .before .before .bytes .ensures)) (omega arith) (omega arith) (omega arith) (omega arith)))
+    let lying = c .before .before .before .before .before .before .before .before .before .lines-to .ensures in
+    let next : c .next-place .result ≡ place (s .args .sheet .now) (s .args .round) (s .args .to) (unsoundTo (s .args .sheet .now) (l .j + 1)) = c .next-place .ensures ∙ rw (l .inv .1, c .before .before .before .before .before .mark .ensures, lying .step-is) (place-next _ _ _ _) in
+    (rowed-more _ _ _ _ _ _ _ _ (l .inv .0) (omega arith) (omega (arith, c .before .before .before .before .before .before .place .ensures)) (c .before .before .before .copy .ensures), next, rw next (lying .most _ (omega arith)))
 
 same-length : tie.Need-same-length Inv-loop μ-loop
 same-length c = c .before .loop .inv .0 .same
@@ -92,8 +80,8 @@ same-length c = c .before .loop .inv .0 .same
 returns : tie.Need-returns Inv-loop μ-loop
 unfolding inbox
 returns c =
-    let a = c .before .before .before .before .before .before .before .before .before .args in
-    rowed-done _ _ _ _ _ _ (c .before .loop .inv .0) (omega arith) ∙ ap (λ (n : ℕ). rowsOf (sent (a .sheet .now) (a .round) (a .mail .now) (a .to + 1)) (a .round .width) n) (c .before .before .before .before .before .columns .ensures)
+    let a = c .before .before .before .before .before .before .before .args in
+    rowed-done _ _ _ _ _ _ (c .before .loop .inv .0) (omega arith) ∙ ap (λ (n : ℕ). rowsOf (sent (a .sheet .now) (a .round) (a .mail .now) (a .to + 1)) (a .round .width) n) (c .before .before .before .columns .ensures)
 
 pub deliver-messages-spec : {M : Type 1} → statement M
 deliver-messages-spec =
@@ -102,12 +90,9 @@ deliver-messages-spec =
     Inv-loop
     μ-loop
     columns-requires
-    place-requires
-    mul-step
-    bytes-requires
-    first-place-requires
+    lines-to-requires
     loop-holds
-    place-requires-2
+    place-requires
     add-mark
     mark-requires
     mul-copy

@@ -1,6 +1,6 @@
 -- `writing::point_bytes` meets its contract. A turn writes two bytes.
 use mathlib.Core.Path.{_≡_, _∙_}
-use Prim.Native.Nat.{ℕ, _+_, _-_, _*_}
+use Prim.Native.Nat.{_+_, _-_, _*_}
 use native.Mathlib.Omega.{arith}
 use Rattle.lists.specs.Loops.{Filled, filled-none, filled-more, filled-done}
 use Rattle.state_bytes.specs.Layout.{pointByte}

@@ -2,17 +2,20 @@
 use mathlib.Core.Path.{_≡_, refl, sym, ap, _∙_}
 use mathlib.Core.Logic.{_⊎_, inl, inr}
 use mathlib.Core.Bool.{Bool, true, false, cond, not, _&&_}
-use Prim.Native.Nat.{ℕ, zero, suc, _+_, _*_, _≤_, _<_}
-use native.Mathlib.Nat.{eq-or-lt-of-le}
+use mathlib.Core.List.{List}
+use Prim.Native.Nat.{ℕ, zero, suc, _+_, _-_, _*_, _≤_, _<_}
+use native.Mathlib.Nat.{eq-or-lt-of-le, zero-add, suc-add}
 use native.Mathlib.Omega.{arith}
-use borrow.Author.Tests.{ltb-true, ltb-false, le-ltb}
+use borrow.Author.Tests.{lt-ltb, le-ltb, ltb-true, ltb-false, ne-eqb}
 use lib.Dec.{T, eqb, leb, ltb, leb→le, le→leb, eqb→eq, not-T}
-use Rattle.lists.specs.Lists.{count}
+use lib.ListN.{getD}
+use Rattle.lists.specs.Lists.{bit, count, listOf}
+use Rattle.lists.specs.Entries.{getD-listOf}
 use Rattle.lists.specs.Tests.{passes}
 use Rattle.lists.specs.Count.{mono, count-not, count-le, find, Found, count-same}
 use Rattle.field.specs.Field.{blank}
 use Rattle.sizes.specs.Sizes.{faults}
-use Rattle.messages.specs.Messages.{readPoint, times}
+use Rattle.messages.specs.Messages.{readPoint, from, times}
 use Rattle.messages.specs.Laws.{point-is, same-point}
 use Rattle.dissemination.specs.Dissemination.{least, often, keptPoint}
 
@@ -109,6 +112,54 @@ weight-le n received best v = go (ltb v best && ltb v 257)
 pub better-is : (n : ℕ) (received : ℕ → ℕ) (best t c v u : ℕ) → t ≡ faults n → c ≡ weight n received best v → v ≡ u → cond (ltb t c) v best ≡ better n received best u
 unfolding better
 better-is n received best t c v u e f g = rw (e, f, g) refl
+
+-- IN 32 PLACES, of which all are looked at, however many columns there are
+
+-- what was received from column i + 1 of n; blank past n
+unfoldable pub placed : ℕ → (ℕ → ℕ) → ℕ → ℕ
+placed n received i = cond (ltb i n) (received (i + 1)) blank
+
+-- columns past n that do not pass add nothing
+count-past : (P : ℕ → Bool) (n k : ℕ) → ((j : ℕ) → n < j → j ≤ k + n → P j ≡ false) → count P (k + n) ≡ count P n
+unfolding count
+count-past P n zero f = rw zero-add refl
+count-past P n (suc k) f =
+    rw suc-add (omega (arith, ap bit (f (suc (k + n)) (omega arith) (omega arith)), count-past P n k (λ j l u. f j l (omega arith))))
+
+module _ (n : ℕ) (received : ℕ → ℕ) where
+  pub placed-within : (i : ℕ) → i < n → placed n received i ≡ received (i + 1)
+  unfolding placed
+  placed-within i h = simp (lt-ltb i n h)
+
+  pub placed-past : (i : ℕ) → n ≤ i → placed n received i ≡ blank
+  unfolding placed
+  placed-past i h = simp (le-ltb i n h)
+
+  module _ (values : List ℕ) (e : values ≡ listOf (placed n received) 32) (few : n ≤ 32) where
+    -- place i is column i + 1's
+    pub placed-at : (i z : ℕ) → i < n → getD values i z ≡ received (i + 1)
+    placed-at i z h = rw e (getD-listOf (placed n received) 32 i z (omega arith)) ∙ placed-within i h
+
+    -- a point stands there as often as it was received: blank is no point
+    placed-times : (v : ℕ) → v < 257 → times (from values) v 32 ≡ times received v n
+    unfolding times from
+    placed-times v b =
+        let cut : 32 ≡ 32 - n + n = omega arith in
+        ap (λ (k : ℕ). count (λ j. eqb (from values j) v) k) cut
+        ∙ count-past (λ j. eqb (from values j) v) n (32 - n) (λ j l u.
+        ap (λ (x : ℕ). eqb x v) (rw e (getD-listOf (placed n received) 32 (j - 1) blank (omega arith)) ∙ placed-past (j - 1) (omega arith)) ∙ ne-eqb blank v (omega arith))
+        ∙ count-same (λ j. eqb (from values j) v) (λ j. eqb (received j) v) n (λ j l u.
+        let same : j - 1 + 1 ≡ j = omega arith in
+        ap (λ (x : ℕ). eqb x v) (placed-at (j - 1) blank (omega arith) ∙ ap received same))
+
+    pub weight-placed : (best v : ℕ) → weight 32 (from values) best v ≡ weight n received best v
+    unfolding weight
+    weight-placed best v = go (ltb v best) (ltb v 257) refl
+      where
+        go : (p q : Bool) → ltb v 257 ≡ q → cond (p && q) (times (from values) v 32) 0 ≡ cond (p && q) (times received v n) 0
+        go true true l = placed-times v (ltb-true v 257 l)
+        go true false l = refl
+        go false q l = refl
 
 -- the best of the columns 1 to i, of n
 pub record Best (n : ℕ) (received : ℕ → ℕ) (i best : ℕ) : Type 0 where

@@ -7,10 +7,11 @@ ghost use mathlib.Core.Bool.{true, cond};
 ghost use Prim.Native.Nat.{_+_, _*_, _≤_, _<_};
 ghost use lib.Dec.{ltb};
 ghost use lib.ListN.{length};
+ghost use Rattle.lists.specs.Lists.{listOf};
 ghost use Rattle.sizes.specs.Sizes.{blocks, refusal as refusalOfSizes};
-ghost use Rattle.messages.specs.Messages.{unlessRefused, times as timesOf};
+ghost use Rattle.messages.specs.Messages.{from, unlessRefused, times as timesOf};
 ghost use Rattle.dissemination.specs.Dissemination.{pointsToAll, keptPoint, keptPoints, roundRefusal, kept as keptOf};
-ghost use Rattle.dissemination.specs.Kept.{weight as weightOf};
+ghost use Rattle.dissemination.specs.Kept.{placed, weight as weightOf};
 ghost use Rattle.dissemination.specs.Laws.{heardOf, keptFrom};
 
 // What listening to the points answers: its refusal, 0 for none, and the kept point of each block, blank past the blocks; all blank
@@ -63,22 +64,33 @@ fn heard_at(own: u8, mine: u16, b: u16, inbox: &[u16], k: u16, i: u8) -> u16
     inbox[at]
 }
 
-// How many of n columns sent v as value k. It is counted where the values lie: most often one count settles the block.
-fn times(n: u8, own: u8, mine: u16, b: u16, inbox: &[u16], k: u16, v: u16) -> usize
+// Value k from each of n columns, in 32 places; blank past n. In the slice they lie apart, and each count looks at all of them.
+fn gathered(n: u8, own: u8, mine: u16, b: u16, inbox: &[u16], k: u16) -> [u16; 32]
     requires { ⌜ (n ≤ 31) × (k < b) × (n * b ≡ length (now inbox)) ⌝ }
-    ensures { λ r. ⌜ r ≡ timesOf (heardOf own mine b (now (inbox .entry)) k) v n ⌝ }
+    ensures { λ r. ⌜ r ≡ listOf (placed n (heardOf own mine b (now (inbox .entry)) k)) 32 ⌝ }
 {
-    let mut sum = 0usize;
+    let mut values = [65535u16; 32];
     for i in 0..n {
-        sum += messages::flag(heard_at(own, mine, b, inbox, k, i) == v) as usize;
+        let at = i as usize;
+        values[at] = heard_at(own, mine, b, inbox, k, i);
     }
-    sum
+    values
+}
+
+// How many of the values are v. All 32 places are looked at, however many columns there are, so that the machine does eight at a time.
+fn times(values: [u16; 32], v: u16) -> usize
+    ensures { λ r. ⌜ r ≡ timesOf (from values) v 32 ⌝ }
+{
+    let mut sum = 0u16;
+    for i in 0..32 {
+        sum += messages::flag(values[i] == v) as u16;
+    }
+    sum as usize
 }
 
 // How often v was received, where it is a point below the best so far; else 0.
-fn weight(n: u8, own: u8, mine: u16, b: u16, inbox: &[u16], k: u16, best: u16, v: u16) -> usize
-    requires { ⌜ (n ≤ 31) × (k < b) × (n * b ≡ length (now inbox)) ⌝ }
-    ensures { λ r. ⌜ r ≡ weightOf n (heardOf own mine b (now (inbox .entry)) k) best v ⌝ }
+fn weight(values: [u16; 32], best: u16, v: u16) -> usize
+    ensures { λ r. ⌜ r ≡ weightOf 32 (from values) best v ⌝ }
 {
     if best <= v {
         return 0;
@@ -86,7 +98,7 @@ fn weight(n: u8, own: u8, mine: u16, b: u16, inbox: &[u16], k: u16, best: u16, v
     if Field::MODULUS <= v {
         return 0;
     }
-    times(n, own, mine, b, inbox, k, v)
+    times(values, v)
 }
 
 // v if it was received more than t times, else the best so far.
@@ -105,10 +117,12 @@ fn kept_point(n: u8, own: u8, mine: u16, b: u16, inbox: &[u16], k: u16) -> u16
     ensures { λ r. ⌜ r ≡ keptPoint n (heardOf own mine b (now (inbox .entry)) k) ⌝ }
 {
     let t = sizes::faults(n);
+    let values = gathered(n, own, mine, b, inbox, k);
     let mut best = 65535u16;
     for i in 0..n {
-        let v = heard_at(own, mine, b, inbox, k, i);
-        let c = weight(n, own, mine, b, inbox, k, best, v);
+        let at = i as usize;
+        let v = values[at];
+        let c = weight(values, best, v);
         if n as usize <= c + t {
             return v;
         }

@@ -20,6 +20,8 @@ impl<'a> Row<'a> {
 
     fn take_turn(&mut self) {
         for (best, side) in self.best.iter_mut().zip(&mut self.sides) {
+            // Once for nothing, so that no side pays for bringing the inputs near.
+            side();
             let start = Instant::now();
             side();
             *best = best.min(start.elapsed().as_nanos() as f64 / self.calls as f64);

@@ -1,6 +1,8 @@
 -- The loop over the rounds of a wall.
 use mathlib.Core.Path.{_≡_, refl, ap, _∙_}
+use mathlib.Core.Bool.{Bool, true, false, cond}
 use mathlib.Core.List.{List}
+use lib.Dec.{eqb, leb}
 use Prim.Native.Nat.{ℕ, _+_, _-_, _*_, _≤_, _<_}
 use native.Mathlib.Nat.{mul-le-mul}
 use native.Mathlib.Numerals.{add-one}
@@ -9,8 +11,9 @@ use lib.ListN.{length}
 use Rattle.lists.specs.Lists.{sum}
 use Rattle.lists.specs.Entries.{sum-more, sum-le}
 use Rattle.sizes.specs.declared.Protocol.{Protocol}
-use Rattle.sizes.specs.Sizes.{roundsIn, valuesIn, lineIn}
-use Rattle.sizes.specs.Laws.{values-in-le}
+use Rattle.sizes.specs.declared.Protocol.the-variants.{Agreement, Posting}
+use Rattle.sizes.specs.Sizes.{degree, blocks, rounds, values, postingValues, roundsIn, valuesIn, lineIn}
+use Rattle.sizes.specs.Laws.{values-in-le, InRange, sized}
 use Rattle.agreement.specs.declared.Column.{Column}
 use Rattle.sheet.specs.Sheet.{columns, bytes}
 use Rattle.delivery.specs.declared.Round.{Round}
@@ -20,8 +23,39 @@ use Rattle.wall_run.specs.Run.{start, roundAt, played, after, ended}
 pub width-le : (p : Protocol) (n m r : ℕ) → m ≤ 32 → valuesIn p n m r ≤ 65
 width-le p n m r h = omega (arith, values-in-le p n m r)
 
-pub mail-le : (n w : ℕ) → n ≤ 31 → w ≤ 65 → n * (n * w) ≤ 65536
-mail-le n w h g = omega (arith, mul-le-mul {n₁ = n} {m₁ = n * w} {n₂ = 31} {m₂ = 2015} h (mul-le-mul {n₁ = n} {m₁ = w} {n₂ = 31} {m₂ = 65} h g))
+-- n is at most 9 (d + 1), and B blocks of d + 1 bytes are at most m + d
+exchange-le : (n m : ℕ) → InRange n m → n * (2 * blocks n m) ≤ 992
+exchange-le n m r =
+    let s = sized n m r in
+    let some : blocks n m * (degree n + 1) ≤ 35 = omega (arith, s .blocks-least, s .degree-high, r .bytes-high) in
+    let held : n * blocks n m ≤ 9 * (degree n + 1) * blocks n m = mul-le-mul {n₁ = n} {m₁ = blocks n m} {n₂ = 9 * (degree n + 1)} {m₂ = blocks n m} (omega (arith, s .faults-most, s .degree-most)) (omega arith) in
+    omega (arith, held, some)
+
+record-le : (n m : ℕ) → InRange n m → n * m ≤ 992
+record-le n m r = mul-le-mul {n₁ = n} {m₁ = m} {n₂ = 31} {m₂ = 32} (r .columns-high) (r .bytes-high)
+
+pub one-le : (p : Protocol) (n m round : ℕ) → InRange n m → n * valuesIn p n m round ≤ 992
+unfolding valuesIn values postingValues
+one-le Agreement n m round r = go (eqb round 0) (eqb round 1) (leb (round + 2) (rounds n)) (leb round (rounds n))
+  where
+    go : (a b c d : Bool) → n * cond a 0 (cond b (2 * blocks n m) (cond c 1 (cond d (blocks n m) 0))) ≤ 992
+    go true b c d = omega arith
+    go false true c d = exchange-le n m r
+    go false false true d = omega (arith, r .columns-high)
+    go false false false true = omega (arith, exchange-le n m r)
+    go false false false false = omega arith
+one-le (Posting s) n m round r = go (eqb round 0) (eqb round 1) (eqb round 2) (leb round 4) (leb round 6)
+  where
+    go : (a b c d e : Bool) → n * cond a 0 (cond b m (cond c (2 * blocks n m) (cond d 1 (cond e (blocks n m) 0)))) ≤ 992
+    go true b c d e = omega arith
+    go false true c d e = record-le n m r
+    go false false true d e = exchange-le n m r
+    go false false false true e = omega (arith, r .columns-high)
+    go false false false false true = omega (arith, exchange-le n m r)
+    go false false false false false = omega arith
+
+pub mail-le : (n w : ℕ) → n ≤ 31 → n * w ≤ 992 → n * (n * w) ≤ 30752
+mail-le n w h g = mul-le-mul {n₁ = n} {m₁ = n * w} {n₂ = 31} {m₂ = 992} h g
 
 -- a round as the loop has it
 round-is : (p : Protocol) (sheet : List ℕ) (q l o w : ℕ) → l ≡ lineIn p (columns sheet) (bytes sheet) → o ≡ sum (valuesIn p (columns sheet) (bytes sheet)) q
@@ -37,9 +71,9 @@ pub record Going (p : Protocol) (sheet : List ℕ) (last : ℕ) (mail : List ℕ
   pub few : last ≤ 101
   pub wall-is : wall ≡ after p sheet q
   pub offset-is : offset ≡ sum (valuesIn p (columns sheet) (bytes sheet)) q
-  pub room : length mail ≡ 65536
+  pub room : length mail ≡ 30752
 
-pub going-none : (p : Protocol) (sheet : List ℕ) (last : ℕ) (mail : List ℕ) (wall : List Column) → last ≤ 101 → wall ≡ start p sheet → length mail ≡ 65536 → Going p sheet last mail wall 0 0
+pub going-none : (p : Protocol) (sheet : List ℕ) (last : ℕ) (mail : List ℕ) (wall : List Column) → last ≤ 101 → wall ≡ start p sheet → length mail ≡ 30752 → Going p sheet last mail wall 0 0
 unfolding after sum
 going-none p sheet last mail wall h e r = record { within = omega arith; few = h; wall-is = e; offset-is = refl; room = r }
 

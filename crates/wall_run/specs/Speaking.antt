@@ -25,7 +25,7 @@ use Rattle.wall_run.specs.Run.{blanks}
 -- room for what all columns say, all of it blank
 pub record Space (n w : ℕ) (mail : List ℕ) : Type 0 where
   pub few : n ≤ 31
-  pub narrow : w ≤ 65
+  pub narrow : n * w ≤ 992
   pub blank-all : mail ≡ replicate (n * (n * w)) blank
 
 -- a list whose entries are blanks

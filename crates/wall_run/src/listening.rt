@@ -38,13 +38,12 @@ pub(super) fn listen_all(
     mail: &[u16],
     mut wall: [Column; 31],
 ) -> [Column; 31]
-    requires { ⌜ (columns (now sheet) ≤ 31) × (columns (now sheet) * (round .width) ≤ 2048) ⌝ }
+    requires { ⌜ (columns (now sheet) ≤ 31) × (columns (now sheet) * (round .width) ≤ 992) ⌝ }
     ensures { λ r. ⌜ r ≡ each (columns (now (sheet .entry))) (heard protocol (now (sheet .entry)) round (now (mail .entry))) wall ⌝ }
 {
     let n = sheet::columns(sheet);
     let len = space::of_one(sheet, round.width);
-    // Room for 31 messages of at most 65 values.
-    let mut inbox = [65535u16; 2048];
+    let mut inbox = [65535u16; 992];
     for i in 0..n {
         let at = i as usize;
         let column = wall[at];

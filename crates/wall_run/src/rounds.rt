@@ -21,7 +21,7 @@ fn played(
     wall: [Column; 31],
     mail: &mut [u16],
 ) -> [Column; 31]
-    requires { ⌜ (columns (now sheet) ≤ 31) × (round .width ≤ 65) × (length (now mail) ≡ columns (now sheet) * (columns (now sheet) * (round .width))) ⌝ }
+    requires { ⌜ (columns (now sheet) ≤ 31) × (columns (now sheet) * (round .width) ≤ 992) × (length (now mail) ≡ columns (now sheet) * (columns (now sheet) * (round .width))) ⌝ }
     ensures { λ r. ⌜ r ≡ playedOf protocol (now (sheet .entry)) round wall ⌝ }
 {
     speaking::clear(mail);
@@ -38,8 +38,8 @@ pub(super) fn ended(protocol: Protocol, sheet: &[u8]) -> [Column; 31]
     let m = sheet::bytes(sheet);
     let last = sizes::rounds_in(protocol, n) as u8;
     let line = sizes::line_in(protocol, n, m) as u16;
-    // Room for what 31 columns say to 31, of at most 65 values each.
-    let mut mail = [65535u16; 65536];
+    // Room for what 31 columns say, each at most 992 values.
+    let mut mail = [65535u16; 30752];
     let mut wall = start::start(protocol, sheet);
     let mut offset = 0u16;
     for q in 0..last {

@@ -12,7 +12,7 @@ pub(super) fn of_one(sheet: &[u8], width: u16) -> usize
 
 // What j columns say, one after the other.
 pub(super) fn of_many(sheet: &[u8], width: u16, j: u8) -> usize
-    requires { ⌜ (columns (now sheet) ≤ 31) × (width ≤ 65) ⌝ }
+    requires { ⌜ (columns (now sheet) ≤ 31) × (columns (now sheet) * width ≤ 992) ⌝ }
     ensures { λ r. ⌜ r ≡ j * (columns (now (sheet .entry)) * width) ⌝ }
 {
     messages::place(j, of_one(sheet, width) as u16, 0)

@@ -13,7 +13,7 @@ use Rattle.wall_run.proofs.listening.listen_all.Statement.{statement}
 use Rattle.wall_run.proofs.listening.listen_all.Tie as tie
 
 abbrev Inv-loop : tie.InvT-loop
-Inv-loop protocol sheet round mail wall₀ n len inbox₀ i₀ wall inbox i = Filled (turned (heard protocol sheet round mail) wall₀) (columns sheet) wall₀ wall i × (length inbox ≡ 2048)
+Inv-loop protocol sheet round mail wall₀ n len inbox₀ i₀ wall inbox i = Filled (turned (heard protocol sheet round mail) wall₀) (columns sheet) wall₀ wall i × (length inbox ≡ 992)
 
 abbrev μ-loop : tie.MeasureT-loop
 μ-loop protocol sheet round mail wall₀ n len inbox₀ i₀ wall inbox i = n - i
@@ -25,7 +25,7 @@ of-one-requires : tie.Need-of-one-requires Inv-loop μ-loop
 of-one-requires c κs = tt
 
 loop-holds : tie.Need-loop-holds Inv-loop μ-loop
-loop-holds c = (filled-none _ _ _ (omega (arith, c .before .before .before .before .pre .0, c .before .before .before .before .good .1 .1 .1 .1 .0 .1 .0 .1)), length-replicate {A = ℕ} 2048 65535)
+loop-holds c = (filled-none _ _ _ (omega (arith, c .before .before .before .before .pre .0, c .before .before .before .before .good .1 .1 .1 .1 .0 .1 .0 .1)), length-replicate {A = ℕ} 992 65535)
 
 cast-at : tie.Need-cast-at Inv-loop μ-loop
 cast-at c = omega arith

@@ -7,7 +7,7 @@ use lib.Seq.{length-take-le, length-front}
 use Rattle.sizes.specs.Sizes.{roundsIn, valuesIn, lineIn}
 use Rattle.sizes.specs.Laws.{rounds-in-le, line-in-le}
 use Rattle.sheet.specs.Sheet.{columns}
-use Rattle.wall_run.specs.Rounds.{width-le, mail-le, Going, going-none, going-more, going-few, going-done}
+use Rattle.wall_run.specs.Rounds.{width-le, one-le, mail-le, Going, going-none, going-more, going-few, going-done}
 use Rattle.wall_run.proofs.rounds.ended.Statement.{statement}
 use Rattle.wall_run.proofs.rounds.ended.Tie as tie
 
@@ -39,7 +39,7 @@ start-requires : tie.Need-start-requires Inv-loop μ-loop
 start-requires c κs = c .before .before .before .before .before .pre
 
 loop-holds : tie.Need-loop-holds Inv-loop μ-loop
-loop-holds c = going-none _ _ _ _ _ (omega (arith, c .before .before .rounds-in .ensures, rounds-in-le (c .before .before .before .before .before .before .args .protocol) (c .before .before .before .before .columns .result), c .before .before .before .before .columns .ensures, c .before .before .before .before .before .before .pre .range .columns-high)) (c .start .ensures) (length-replicate {A = ℕ} 65536 65535)
+loop-holds c = going-none _ _ _ _ _ (omega (arith, c .before .before .rounds-in .ensures, rounds-in-le (c .before .before .before .before .before .before .args .protocol) (c .before .before .before .before .columns .result), c .before .before .before .before .columns .ensures, c .before .before .before .before .before .before .pre .range .columns-high)) (c .start .ensures) (length-replicate {A = ℕ} 30752 65535)
 
 add-values-in : tie.Need-add-values-in Inv-loop μ-loop
 add-values-in c = omega (arith, c .before .loop .inv .few)
@@ -56,35 +56,35 @@ cast-width c =
 of-many-requires : tie.Need-of-many-requires Inv-loop μ-loop
 of-many-requires c κs =
     let pre = c .before .before .before .before .before .before .before .before .before .pre in
-    let wide : c .values-in .result ≤ 65 = rw (c .values-in .ensures) (width-le _ _ _ _ (omega (arith, c .before .before .before .before .before .before .bytes .ensures, pre .range .bytes-high))) in
-    (pre .range .columns-high, wide)
+    let one : columns (c .before .before .before .before .before .before .before .before .before .args .sheet .now) * c .values-in .result ≤ 992 = rw (c .values-in .ensures, c .before .before .before .before .before .before .before .columns .ensures, c .before .before .before .before .before .before .bytes .ensures) (one-le _ _ _ _ (pre .range)) in
+    (pre .range .columns-high, one)
 
 array-borrow-prefix-mail : tie.Need-array-borrow-prefix-mail Inv-loop μ-loop
 array-borrow-prefix-mail c =
     let pre = c .before .before .before .before .before .before .before .before .before .before .pre in
-    let wide : c .before .values-in .result ≤ 65 = rw (c .before .values-in .ensures) (width-le _ _ _ _ (omega (arith, c .before .before .before .before .before .before .before .bytes .ensures, pre .range .bytes-high))) in
+    let one : columns (c .before .before .before .before .before .before .before .before .before .before .args .sheet .now) * c .before .values-in .result ≤ 992 = rw (c .before .values-in .ensures, c .before .before .before .before .before .before .before .before .columns .ensures, c .before .before .before .before .before .before .before .bytes .ensures) (one-le _ _ _ _ (pre .range)) in
     let n = columns (c .before .before .before .before .before .before .before .before .before .before .args .sheet .now) in
     let len : c .of-many .result ≡ n * (n * c .before .values-in .result) = c .of-many .ensures ∙ ap (λ (j : ℕ). j * (n * c .before .values-in .result)) (c .before .before .before .before .before .before .before .before .columns .ensures) in
-    let room = mail-le n (c .before .values-in .result) (pre .range .columns-high) wide in
+    let room = mail-le n (c .before .values-in .result) (pre .range .columns-high) one in
     omega (arith, c .before .before .before .loop .inv .room)
 
 slice-aggregate-played : tie.Need-slice-aggregate-played Inv-loop μ-loop
 slice-aggregate-played c =
     let pre = c .before .before .before .before .before .before .before .before .before .before .before .pre in
-    let wide : c .before .before .values-in .result ≤ 65 = rw (c .before .before .values-in .ensures) (width-le _ _ _ _ (omega (arith, c .before .before .before .before .before .before .before .before .bytes .ensures, pre .range .bytes-high))) in
+    let one : columns (c .before .before .before .before .before .before .before .before .before .before .before .args .sheet .now) * c .before .before .values-in .result ≤ 992 = rw (c .before .before .values-in .ensures, c .before .before .before .before .before .before .before .before .before .columns .ensures, c .before .before .before .before .before .before .before .before .bytes .ensures) (one-le _ _ _ _ (pre .range)) in
     let n = columns (c .before .before .before .before .before .before .before .before .before .before .before .args .sheet .now) in
     let len : c .before .of-many .result ≡ n * (n * c .before .before .values-in .result) = c .before .of-many .ensures ∙ ap (λ (j : ℕ). j * (n * c .before .before .values-in .result)) (c .before .before .before .before .before .before .before .before .before .columns .ensures) in
-    let room = mail-le n (c .before .before .values-in .result) (pre .range .columns-high) wide in
+    let room = mail-le n (c .before .before .values-in .result) (pre .range .columns-high) one in
     sym (length-take-le _ _ (omega (arith, c .before .before .before .before .loop .inv .room)))
 
 played-requires : tie.Need-played-requires Inv-loop μ-loop
 played-requires c κs =
     let pre = c .before .before .before .before .before .before .before .before .before .before .before .pre in
-    let wide : c .before .before .values-in .result ≤ 65 = rw (c .before .before .values-in .ensures) (width-le _ _ _ _ (omega (arith, c .before .before .before .before .before .before .before .before .bytes .ensures, pre .range .bytes-high))) in
+    let one : columns (c .before .before .before .before .before .before .before .before .before .before .before .args .sheet .now) * c .before .before .values-in .result ≤ 992 = rw (c .before .before .values-in .ensures, c .before .before .before .before .before .before .before .before .before .columns .ensures, c .before .before .before .before .before .before .before .before .bytes .ensures) (one-le _ _ _ _ (pre .range)) in
     let n = columns (c .before .before .before .before .before .before .before .before .before .before .before .args .sheet .now) in
     let len : c .before .of-many .result ≡ n * (n * c .before .before .values-in .result) = c .before .of-many .ensures ∙ ap (λ (j : ℕ). j * (n * c .before .before .values-in .result)) (c .before .before .before .before .before .before .before .before .before .columns .ensures) in
-    let room = mail-le n (c .before .before .values-in .result) (pre .range .columns-high) wide in
-    (pre .range .columns-high, wide, length-take-le _ _ (omega (arith, c .before .before .before .before .loop .inv .room)) ∙ len)
+    let room = mail-le n (c .before .before .values-in .result) (pre .range .columns-high) one in
+    (pre .range .columns-high, one, length-take-le _ _ (omega (arith, c .before .before .before .before .loop .inv .room)) ∙ len)
 
 add-offset : tie.Need-add-offset Inv-loop μ-loop
 add-offset c =

@@ -3,8 +3,6 @@ use borrow.Author.Needs.{needs}
 use mathlib.Core.Path.{ap, ap₂, _∙_}
 use mathlib.Core.List.{List}
 use Prim.Native.Nat.{ℕ}
-use native.Mathlib.Nat.{mul-le-mul}
-use native.Mathlib.Omega.{arith}
 use lib.ListN.{replicate}
 use Rattle.field.specs.Field.{blank}
 use Rattle.agreement.specs.declared.Column.{Column}
@@ -24,8 +22,7 @@ speak-all-requires c κs =
 listen-all-requires : tie.Need-listen-all-requires
 listen-all-requires c κs =
     let p = c .before .before .before .before .before .before .before .before .before .before .before .pre in
-    let a = c .before .before .before .before .before .before .before .before .before .before .before .args in
-    (p .0, omega (arith, mul-le-mul {n₁ = columns (a .sheet .now)} {m₁ = a .round .width} {n₂ = 31} {m₂ = 65} (p .0) (p .1)))
+    (p .0, p .1)
 
 same-length : tie.Need-same-length
 same-length c = search needs

@@ -2,7 +2,7 @@
 use borrow.Author.Needs.{needs}
 use mathlib.Core.Path.{ap, _∙_}
 use Prim.Native.Nat.{ℕ, _*_}
-use native.Mathlib.Nat.{add-zero, mul-le-mul}
+use native.Mathlib.Nat.{add-zero}
 use native.Mathlib.Omega.{arith}
 use Rattle.wall_run.proofs.space.of_many.Statement.{statement}
 use Rattle.wall_run.proofs.space.of_many.Tie as tie
@@ -11,7 +11,7 @@ of-one-requires : tie.Need-of-one-requires
 of-one-requires c κs = search needs
 
 cast-place : tie.Need-cast-place
-cast-place c = omega (arith, c .of-one .ensures, mul-le-mul (c .before .before .pre .0) (c .before .before .pre .1))
+cast-place c = omega (arith, c .of-one .ensures, c .before .before .pre .1)
 
 place-requires : tie.Need-place-requires
 place-requires c κs = search needs

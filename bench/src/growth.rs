@@ -19,13 +19,10 @@ fn x(n: usize) -> f64 {
     MARGIN + (n - 4) as f64 / 27.0 * (WIDTH - 2.0 * MARGIN)
 }
 
-/// The least power of two, times a half, that is not below a time.
+/// A round number that is not below a time.
 fn top(most: f64) -> f64 {
-    let mut top = 1.0;
-    while top < most {
-        top *= if top.log10().fract() == 0.0 { 2.0 } else { 2.5 };
-    }
-    top
+    let power = 10f64.powf(most.log10().floor());
+    [1.0, 2.0, 4.0, 6.0, 8.0, 10.0].into_iter().map(|part| part * power).find(|&top| top >= most).unwrap_or(most)
 }
 
 pub fn picture(random: &Random) {

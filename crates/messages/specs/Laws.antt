@@ -82,12 +82,6 @@ pub written-fits : (w : ℕ) (message part : List ℕ) → w ≤ length part →
 unfolding written laid
 written-fits w message part h = simp (le-leb w (length part) h)
 
--- a message told otherwise
-pub written-as : (w : ℕ) (message other part : List ℕ) → w ≤ length part → ((k : ℕ) → said message k ≡ said other k)
-    → written w message part ≡ listOf (said other) w ++ drop w part
-written-as w message other part h e =
-    written-fits w message part h ∙ ap (λ (front : List ℕ). front ++ drop w part) (listOf-same (said message) (said other) w (λ k _. e k))
-
 pub not-written : (w : ℕ) (message part : List ℕ) → length part < w → written w message part ≡ part
 unfolding written
 not-written w message part h = simp (lt-leb w (length part) h)

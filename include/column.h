@@ -58,7 +58,7 @@ enum column_refusal {
     COLUMN_BAD_WALL = 1,     /* n is not 4 to 31 */
     COLUMN_BAD_RECORD = 2,   /* m is not 1 to 32 */
     COLUMN_BAD_NUMBER = 3,   /* a column's number is not 1 to n */
-    COLUMN_BAD_LENGTH = 4,   /* a slice has not the length that the call asks for */
+    COLUMN_BAD_LENGTH = 4,   /* a slice, or a sheet, has not the length that the call asks for */
     COLUMN_BAD_MARK = 5,     /* a mark of a sheet is neither 0 nor 1 */
     COLUMN_TOO_MANY = 6,     /* a sheet marks more than (n - 1) / 3 columns as unsound */
     COLUMN_MUST_LISTEN = 7,  /* asked to speak, but it spoke in this round and has to listen */

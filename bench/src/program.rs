@@ -14,6 +14,6 @@ pub fn table() {
         let side = |program: &'static str| Box::new(move || run(program, sheet)) as Box<dyn FnMut()>;
         Row::new(name, 1, vec![side("target/bin/wall"), side("target/cargo/release/wall")])
     };
-    let rows = vec![row("31 columns, 32 bytes, ten unsound", "walls/large.sheet"), row("refused at once (the process alone)", "/dev/null")];
+    let rows = vec![row("31 columns, 32 bytes, ten unsound", "walls/large.bytes"), row("refused at once (the process alone)", "/dev/null")];
     timing::print(&["reference"], "ms", 1e6, &timing::measured(rows, 500));
 }

@@ -1,4 +1,5 @@
--- The definitions.
+-- The definitions of a record as a codeword: a record in its 32 places, and its values at a point, one for each block. Document 01, "Rounds" 1:
+-- "Column i sends to j its values at i, one per block, then its values at j."
 use mathlib.Core.Path.{_≡_}
 use mathlib.Core.Bool.{Bool, cond, _&&_}
 use mathlib.Core.List.{List, _++_}

@@ -1,4 +1,5 @@
--- The definitions.
+-- The definitions of decoding, by search: of the polynomials through d + 1 of the places the first that meets at least n - t points. Document 01,
+-- "Rounds" 6: "the polynomial of degree at most d that meets at least n - t of them (a blank meets none), or none".
 use mathlib.Core.Bool.{Bool, cond}
 use mathlib.Core.List.{List, [], _∷_, map}
 use mathlib.Core.Option.{Option, none, some}

@@ -1,3 +1,4 @@
--- What is delivered to a column in one round of a wall.
+-- What is delivered to a column in one round of a wall: document 01, "A whole wall".
+-- Delivery: the definitions. Places: where the lines of the unsound columns lie in a sheet, for the loop that goes through them.
 pub mod Delivery
 pub mod Places

@@ -1,4 +1,4 @@
--- The laws of the definitions.
+-- The laws of dispersal: what the code sends and compares is what the definitions say, value by value.
 use mathlib.Core.Path.{_≡_, refl, sym, ap, ap₂, _∙_}
 use mathlib.Core.Bool.{Bool, true, false, cond, _&&_, _||_}
 use mathlib.Core.List.{List, _++_, append-assoc, append-nil}

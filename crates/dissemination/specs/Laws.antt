@@ -1,4 +1,4 @@
--- The laws that the calls use.
+-- The laws of dissemination: what the code sends and keeps is what the definitions say, value by value.
 use mathlib.Core.Path.{_≡_, refl, sym, ap, _∙_}
 use mathlib.Core.Bool.{Bool, true, false, cond}
 use mathlib.Core.List.{List, _++_}

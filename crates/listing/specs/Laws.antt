@@ -1,4 +1,4 @@
--- The laws.
+-- The laws of a listing: numbers by their digits, words by their letters, and that 3,200 bytes hold every listing (`listing-fits`).
 use mathlib.Core.Path.{_≡_, refl, sym, _∙_}
 use mathlib.Core.Bool.{Bool, true, false, cond}
 use mathlib.Core.List.{List, [], _∷_}

@@ -1,4 +1,4 @@
--- The laws of messages.
+-- The laws of messages: legal values are read as they are, and a message is found again where it was written.
 use mathlib.Core.Path.{_≡_, refl, sym, ap, _∙_}
 use mathlib.Core.Bool.{Bool, true, false, cond}
 use mathlib.Core.Logic.{_⊎_, inl, inr, ⊎-elim}

@@ -1,4 +1,4 @@
--- The definitions, in document 01's order.
+-- The definitions of messages, in document 01's order: what a value says, how messages lie, what is heard, and what is refused.
 use mathlib.Core.Bool.{cond}
 use mathlib.Core.List.{List, _++_}
 use Prim.Native.Nat.{ℕ, _+_, _-_, _*_}

@@ -1,4 +1,4 @@
--- The laws of a sheet.
+-- The laws of a sheet: where its parts lie, and what is known of one that is accepted (`Accepted`).
 use mathlib.Core.Path.{_≡_, refl, ap}
 use mathlib.Core.Bool.{Bool, true, false, not, cond}
 use mathlib.Core.List.{List}

@@ -1,4 +1,4 @@
--- The laws of the sizes.
+-- The laws of the sizes: how large each can get, what an accepted wall has (`Sized`, `Accepted`), and that the values of all rounds are a line.
 use mathlib.Core.Path.{_≡_, refl}
 use mathlib.Core.Bool.{Bool, true, false, cond, _||_, true≢false}
 use mathlib.Core.Logic.{_⊎_, inl, inr}

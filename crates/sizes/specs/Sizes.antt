@@ -1,4 +1,4 @@
--- The definitions, in document 01's order.
+-- The definitions of a wall's sizes, in document 01's order: t, d, B, the rounds and the values of a message, then the refusals 1, 2, 3.
 use mathlib.Core.Bool.{Bool, cond, _||_}
 use Prim.Native.Nat.{ℕ, _+_, _-_, _*_, _/_}
 use lib.Dec.{eqb, ltb, leb}

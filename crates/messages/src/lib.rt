@@ -5,7 +5,7 @@ ghost use mathlib.Core.Path.{_≡_};
 ghost use mathlib.Core.Bool.{true, cond};
 ghost use Prim.Native.Nat.{_+_, _*_, _≤_};
 ghost use lib.Dec.{eqb, leb};
-ghost use mathlib.Core.List.{_++_};
+ghost use mathlib.Core.List.{_∷_, _++_};
 ghost use lib.ListN.{length, getD, drop};
 ghost use Rattle.lists.specs.Lists.{bit, listOf};
 ghost use Rattle.messages.specs.Messages.{readPoint, readReport, readBit, readByte, said, from, word as wordOf, toAll, laid, written, put as putOf, refusal as refusalOf, unlessRefused, toAllRefusal, heard as heardOf, heardFrom, heardOfAll, times as timesOf};
@@ -162,13 +162,21 @@ pub fn put(bytes: &[u8], part: &mut [u8]) -> u8
     0
 }
 
+// Writes one value to the front of a part of the outgoing slice.
+fn write_one(v: u16, part: &mut [u16])
+    requires { ⌜ 1 ≤ length (now part) ⌝ }
+    ensures { λ _. ⌜ now (part .exit) ≡ v ∷ drop 1 (now (part .entry)) ⌝ }
+{
+    part[0] = v;
+}
+
 // A message of one value to each column that the slice has a place for.
 fn one_to_each(message: &[u16], out: &mut [u16])
     ensures { λ _. ⌜ now (out .exit) ≡ toAll (length (now (out .entry))) 1 (now (message .entry)) ⌝ }
 {
     let v = value(message, 0);
     for j in 0..out.len() {
-        out[j] = v;
+        write_one(v, &mut out[j..]);
     }
 }
 

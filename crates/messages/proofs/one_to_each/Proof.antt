@@ -1,16 +1,17 @@
 -- `one_to_each` meets its contract.
-use mathlib.Core.Path.{sym, _∙_}
+use mathlib.Core.Path.{_≡_, refl, sym, ap, _∙_}
+use mathlib.Core.List.{_∷_, _++_}
 use Prim.Native.Nat.{_-_}
 use native.Mathlib.Omega.{arith}
-use lib.ListN.{length}
-use Rattle.lists.specs.Loops.{Filled, filled-none, filled-more, filled-done}
-use Rattle.messages.specs.Messages.{said}
-use Rattle.messages.specs.Laws.{toAll-one}
+use lib.ListN.{length, drop}
+use Rattle.lists.specs.Lists.{listOf}
+use Rattle.lists.specs.Loops.{Rowed, rowed-none, rowed-fits, rowed-more, rowed-room, rowed-done}
+use Rattle.messages.specs.Messages.{said, toAll}
 use Rattle.messages.proofs.one_to_each.Statement.{statement}
 use Rattle.messages.proofs.one_to_each.Tie as tie
 
 abbrev Inv-loop : tie.InvT-loop
-Inv-loop message out₀ v j₀ j-end out j = Filled (λ i. said message 0) (length out₀) out₀ out j
+Inv-loop message out₀ v j₀ j-end out j = Rowed (λ j. said message) 1 (length out₀) out₀ out j
 
 abbrev μ-loop : tie.MeasureT-loop
 μ-loop message out₀ v j₀ j-end out j = j-end - j
@@ -19,13 +20,22 @@ value-requires : tie.Need-value-requires Inv-loop μ-loop
 value-requires c κs = tt
 
 loop-holds : tie.Need-loop-holds Inv-loop μ-loop
-loop-holds c = filled-none _ _ _ (omega arith)
+loop-holds c = rowed-none _ _ _ _ (omega arith)
 
-mul-out : tie.Need-mul-out Inv-loop μ-loop
-mul-out c = omega arith
+mul-write-one : tie.Need-mul-write-one Inv-loop μ-loop
+mul-write-one c = omega arith
 
-slice-write-out : tie.Need-slice-write-out Inv-loop μ-loop
-slice-write-out c = omega arith
+sub-write-one : tie.Need-sub-write-one Inv-loop μ-loop
+sub-write-one c = omega (arith, rowed-fits _ _ _ _ _ _ (c .before .loop .inv) (omega arith))
+
+part-write-one-start : tie.Need-part-write-one-start Inv-loop μ-loop
+part-write-one-start c = omega (arith, rowed-fits _ _ _ _ _ _ (c .before .loop .inv) (omega arith))
+
+part-write-one-end : tie.Need-part-write-one-end Inv-loop μ-loop
+part-write-one-end c = omega arith
+
+write-one-requires : tie.Need-write-one-requires Inv-loop μ-loop
+write-one-requires c κs = rowed-room _ _ _ _ _ _ _ (c .before .before .loop .inv) (omega arith) (omega arith)
 
 add-j : tie.Need-add-j Inv-loop μ-loop
 add-j c = omega arith
@@ -34,13 +44,16 @@ loop-less : tie.Need-loop-less Inv-loop μ-loop
 loop-less c = omega arith
 
 loop-again : tie.Need-loop-again Inv-loop μ-loop
-loop-again c = filled-more _ _ _ _ _ _ (c .before .loop .inv) (omega arith) (c .before .before .value .ensures)
+unfolding listOf
+loop-again c = let l = c .before .before .before .before .before in
+    rowed-more _ _ _ _ _ _ _ (l .loop .j) (l .loop .inv) (omega arith) (omega arith) (rw (l .before .value .ensures) at (c .before .before .write-one .ensures))
 
 same-length : tie.Need-same-length Inv-loop μ-loop
 same-length c = c .before .loop .inv .same
 
 returns : tie.Need-returns Inv-loop μ-loop
-returns c = filled-done _ _ _ _ _ (c .before .loop .inv) (omega arith) (omega arith) ∙ sym (toAll-one _ _)
+unfolding toAll
+returns c = rowed-done _ _ _ _ _ _ (c .before .loop .inv) (omega arith)
 
 pub one-to-each-spec : {M : Type 1} → statement M
 one-to-each-spec =
@@ -50,8 +63,11 @@ one-to-each-spec =
     μ-loop
     value-requires
     loop-holds
-    mul-out
-    slice-write-out
+    mul-write-one
+    sub-write-one
+    part-write-one-start
+    part-write-one-end
+    write-one-requires
     add-j
     loop-less
     loop-again

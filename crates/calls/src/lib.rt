@@ -53,9 +53,6 @@ pub fn speak(protocol: Protocol, column: Column, out: &mut [u16]) -> Answered
     ensures { λ r. ⌜ (r ≡ speakOf protocol column (now (out .entry))) × (now (out .exit) ≡ written protocol column (now (out .entry))) ⌝ }
 {
     let why = refusals::to_speak(protocol, column, out.len());
-    if why != 0 {
-        return answered(why, column, column);
-    }
     let stage = column.stage;
     let round = refusals::round_of(stage);
     speaking::say_unless(protocol, why, column, round, out);

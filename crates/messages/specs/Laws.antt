@@ -12,7 +12,7 @@ use lib.ListN.{length, drop, getD, set, List·getD-eq-default}
 use Rattle.lists.specs.Lists.{listOf, inRow}
 use Rattle.lists.specs.Entries.{length-listOf, getD-listOf, listOf-same, listOf-set}
 use Rattle.lists.specs.Tests.{passes}
-use Rattle.lists.specs.Rows.{rowsOf-same, rowsOf-one}
+use Rattle.lists.specs.Rows.{rowsOf-same}
 use Rattle.field.specs.Field.{blank}
 use Rattle.messages.specs.Messages.{readPoint, readReport, readBit, said, from, toAll, laid, written, put, refusal, unlessRefused, heard, heardFrom, heardOfAll}
 
@@ -155,10 +155,6 @@ module _ (own : ℕ) (mine : List ℕ) (w : ℕ) (inbox : List ℕ) where
       getD-listOf (heardFrom n own mine w inbox k) 31 (j - 1) blank (omega arith) ∙ simp (lt-ltb (j - 1) n (omega arith), e)
 
 -- ONE VALUE FROM EACH, where the slice has no more
-
-pub toAll-one : (n : ℕ) (message : List ℕ) → toAll n 1 message ≡ listOf (λ i. said message 0) n
-unfolding toAll
-toAll-one n message = rowsOf-one (λ j. said message) n
 
 module _ (n own : ℕ) (mine inbox : List ℕ) (size : length inbox ≡ n) where
   -- what lies at place i, where this is not the own place

@@ -2,48 +2,36 @@
 use mathlib.Core.Path.{_≡_, refl, sym, _∙_}
 use borrow.Author.Needs.{needs}
 use lib.ListN.{length}
-use Rattle.messages.specs.Laws.{if-refused}
 use Rattle.agreement.specs.declared.Stage.the-variants.{Listen}
 use Rattle.agreement.specs.Calls.{answered, speak}
 use Rattle.agreement.specs.Parts.{withStage}
-use Rattle.calls.specs.Answers.{refused-alike, may-speak, written-is}
+use Rattle.calls.specs.Answers.{may-speak, written-is}
 use Rattle.calls.proofs.speak.Statement.{statement}
 use Rattle.calls.proofs.speak.Tie as tie
 
 to-speak-requires : tie.Need-to-speak-requires
 to-speak-requires c κs = search needs
 
-answered-requires : tie.Need-answered-requires
-answered-requires c κs = search needs
-
-returns : tie.Need-returns
-unfolding speak
-returns c = let t = c .before .before in
-    let a = t .before .before .args in (
-      rw (c .answered .ensures, t .to-speak .ensures) (refused-alike _ _ _ _ (λ z. c .before .if1 .taken (t .to-speak .ensures ∙ z))),
-      sym (if-refused _ _ _ (c .before .if1 .taken)) ∙ written-is (a .protocol) (a .column) (a .out .now) (t .to-speak .result) _ (t .to-speak .ensures) refl,
-    )
-
 round-of-requires : tie.Need-round-of-requires
 round-of-requires c κs = search needs
 
 say-unless-requires : tie.Need-say-unless-requires
-say-unless-requires c κs = let t = c .before .before .before in
+say-unless-requires c κs = let t = c .before .before in
     let a = t .before .before .args in
     λ z. rw (c .before .round-of .ensures) (may-speak (a .protocol) (a .column) (length (a .out .now)) (sym (t .to-speak .ensures) ∙ z) .accepts)
 
-answered-requires-2 : tie.Need-answered-requires-2
-answered-requires-2 c κs = search needs
+answered-requires : tie.Need-answered-requires
+answered-requires c κs = search needs
 
 same-length : tie.Need-same-length
 same-length c = search needs
 
-returns-2 : tie.Need-returns-2
+returns : tie.Need-returns
 unfolding speak withStage
-returns-2 c = let r = c .before .before .before .before .before .before .before .before .before in
-    let t = r .before .before in
+returns c = let r = c .before .before .before .before .before .before .before .before .before in
+    let t = r .before in
     let a = t .before .before .args in
-    let e : c .answered2 .result ≡ answered (t .to-speak .result) (withStage (Listen (r .round-of .result)) (a .column)) (a .column) = c .answered2 .ensures in (
+    let e : c .answered .result ≡ answered (t .to-speak .result) (withStage (Listen (r .round-of .result)) (a .column)) (a .column) = c .answered .ensures in (
       rw (e, t .to-speak .ensures, r .round-of .ensures) refl,
       c .before .before .before .before .before .before .before .say-unless .ensures ∙ written-is (a .protocol) (a .column) (a .out .now) (t .to-speak .result) (r .round-of .result) (t .to-speak .ensures) (r .round-of .ensures),
     )
@@ -53,10 +41,8 @@ speak-spec =
     tie.close
     (tie.spec
     to-speak-requires
-    answered-requires
-    returns
     round-of-requires
     say-unless-requires
-    answered-requires-2
+    answered-requires
     same-length
-    returns-2)
+    returns)

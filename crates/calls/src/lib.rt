@@ -52,18 +52,7 @@ pub fn fresh(protocol: Protocol, n: u8, m: u8, own: u8, record: &[u8]) -> Answer
 pub fn speak(protocol: Protocol, column: Column, out: &mut [u16]) -> Answered
     ensures { λ r. ⌜ (r ≡ speakOf protocol column (now (out .entry))) × (now (out .exit) ≡ written protocol column (now (out .entry))) ⌝ }
 {
-    let why = refusals::to_speak(protocol, column, out.len());
-    let stage = column.stage;
-    let round = refusals::round_of(stage);
-    speaking::say_unless(protocol, why, column, round, out);
-    answered(
-        why,
-        Column {
-            stage: Stage::Listen(round),
-            ..column
-        },
-        column,
-    )
+    speaking::speak(protocol, column, out)
 }
 
 // Reads the messages of the round from the incoming slice, which lie there as they were written; what lies at the own place is not read.

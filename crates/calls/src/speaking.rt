@@ -1,25 +1,32 @@
 // What a column says in a round of its run.
+use super::answered;
 use super::kinds;
 use super::votes;
+use agreement::Answered;
 use agreement::Column;
+use agreement::Stage;
 use sizes::Protocol;
 ghost use mathlib.Core.Path.{_≡_};
-ghost use lib.ListN.{length};
-ghost use Rattle.messages.specs.Messages.{unlessRefused};
-ghost use Rattle.agreement.specs.Rounds.{kindIn, voting};
-ghost use Rattle.rounds.specs.Rounds.{toColumns, roundRefusal};
+ghost use Rattle.agreement.specs.Calls.{speak as speakOf, written};
 
-// Writes the messages of a round, unless the call is refused.
-pub(super) fn say_unless(protocol: Protocol, why: u8, column: Column, round: u8, out: &mut [u16])
-    requires { ⌜ (why ≡ 0 → roundRefusal (kindIn protocol (column .n) round) (voting protocol column) (length (now out)) ≡ 0) ⌝ }
-    ensures { λ _. ⌜ now (out .exit) ≡ unlessRefused why (toColumns (kindIn protocol (column .n) round) (voting protocol column)) (now (out .entry)) ⌝ }
+// Writes the messages of the round, unless the call is refused: then nothing is written, and the state stays as it came.
+pub(super) fn speak(protocol: Protocol, column: Column, out: &mut [u16]) -> Answered
+    ensures { λ r. ⌜ (r ≡ speakOf protocol column (now (out .entry))) × (now (out .exit) ≡ written protocol column (now (out .entry))) ⌝ }
 {
+    let why = refusals::to_speak(protocol, column, out.len());
+    let stage = column.stage;
+    let round = refusals::round_of(stage);
+    let spoken = Column {
+        stage: Stage::Listen(round),
+        ..column
+    };
     if why != 0 {
-        return;
+        return answered(why, spoken, column);
     }
     rounds::say(
         kinds::kind_in(protocol, column.n, round),
         votes::voting(protocol, column),
         out,
     );
+    answered(why, spoken, column)
 }

@@ -152,9 +152,10 @@ impl Cell {
                     _ => format!("; the program would have said {}", self.kind.values(program, "blank")),
                 };
                 let title = format!("column {} to column {to}, round {}: {}{beside}", self.column, self.round, self.kind.values(said, "blank"));
+                // A long message by its first values; the title has it whole.
                 let words = match self.kind.values(said, "-") {
                     whole if said.len() <= 2 || whole == "-" => format!("{to}: {whole}"),
-                    _ => format!("{to}: {} values", said.len()),
+                    _ => format!("{to}: {}..", self.kind.values(&said[..2], "- -")),
                 };
                 line(svg, [self.x + 2, top + LINE * place, self.width - 4], manner, &title, &words);
             }

@@ -42,7 +42,7 @@ pub const KING_RULE: Section = (
 /// The cells of unsound columns.
 pub const UNSOUND: Section = (
     "An unsound column",
-    "what it says to each receiver, in hexadecimal, - for blank",
+    "to each receiver, in hexadecimal; - is blank, .. more values",
     &[
         (20, |svg, [x, y]| line(svg, [x - 20, y - 6, 40], Manner::AsTheProgram, "", "1: 41"), "as the program would say"),
         (32, |svg, [x, y]| line(svg, [x - 20, y - 6, 40], Manner::Silent, "", "2: -"), "silent: all values blank, though\nthe program would have spoken"),

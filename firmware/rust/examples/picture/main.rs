@@ -19,7 +19,7 @@ use svg::Svg;
 /// The room at the left, above the rows, at the right, and between the parts of the protocol.
 const LEFT: usize = 140;
 const TOP: usize = 162;
-const RIGHT: usize = 124;
+const RIGHT: usize = 136;
 const GAP: usize = 8;
 
 /// The least height of a row, the least width of a cell, and of all cells together.

@@ -6,15 +6,21 @@
  * lets it listen (column_listen); after the last round it asks what the column ended on (column_outcome). In a posting one column
  * posts its record to all others; the calls are the same, posting_fresh to posting_outcome.
  *
- * Link with libcolumn_bytes.a, which `rt staticlib column_bytes` writes to target/staticlib/. Every function here is proved to do
- * what is said of it for every input (crates/column_bytes); what is not proved is this file, so firmware/run tests it.
+ * Link with libcolumn_bytes.a, which `rt staticlib column_bytes` writes to target/staticlib/, for x86-64 Linux; it needs memcpy and memset
+ * of the program that it is linked with. Every function here is proved to do what is said of it for every input (crates/column_bytes);
+ * what is not proved is this file, so firmware/run tests it.
  *
  * Who owns what. All memory is the caller's, and the library keeps no pointer past a call: it allocates nothing and has no
  * variables of its own, so calls on different states may run at the same time. A slice is a pointer and then a length, the number
  * of its elements. A pointer is never NULL and stays readable, or writable where it is not const, for the whole length; the
  * slices of one call do not overlap. Nothing else is asked: any length and any contents are answered.
  *
- * Answers. Each call answers 0, or the number of a refusal (enum column_refusal). A refused call has written to no slice, the state
+ * What the board sees to. All columns are made with the same n and m. The message to, or from, column j starts at place (j - 1) times the
+ * values of the round. A message that did not come, or came late, is COLUMN_BLANK in every value. A link tells who speaks and does not
+ * alter what is said, and nobody speaks in a round before all have listened in the one before: without these nothing is claimed. How a value
+ * lies on the wire is the board's affair; the examples send the low byte first.
+ *
+ * Answers. Each call that makes, drives or asks a column, runs a wall or decodes answers 0, or the number of a refusal (enum column_refusal). A refused call has written to no slice, the state
  * included, and can be made again with better arguments.
  */
 #ifndef COLUMN_H
@@ -113,10 +119,10 @@ COLUMN_ASSERT(sizeof(struct column_entry) == COLUMN_ENTRY_BYTES, "an entry has 3
 
 /* AN AGREEMENT */
 
-/* The rounds of a wall of n columns: 3 t + 8, where t is (n - 1) / 3. */
+/* The rounds of a wall of n columns: 3 t + 8, where t is (n - 1) / 3. Of an n that is no wall's too; column_fresh refuses it. */
 size_t column_rounds(uint32_t n);
 
-/* The values of one message in a round, counted from 1. The slices of that round have n times as many. */
+/* The values of one message in a round, counted from 1; 0 in a round that a run does not have. The slices of that round have n times as many. */
 size_t column_values(uint32_t n, uint32_t m, uint32_t round);
 
 /*

@@ -1,5 +1,5 @@
--- The definitions. Document 01, "Sizes of a wall": a record "is cut into B blocks of d + 1 bytes, the last filled with zeros. A block
--- is a polynomial, its first byte the constant term."
+-- The definitions. Document 01, "Sizes of a wall": a record "is cut into B = ceil(m / (d + 1)) blocks of d + 1 bytes, the last
+-- filled with zeros. A block is a polynomial, its first byte the constant term."
 use mathlib.Core.Bool.{Bool}
 use mathlib.Core.List.{List, [], _∷_}
 use Prim.Native.Nat.{ℕ, zero, suc, _+_, _*_}

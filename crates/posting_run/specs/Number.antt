@@ -1,4 +1,4 @@
--- The poster's number as a program is told it: "s as its argument".
+-- The poster's number as a program is told it, in decimal digits. Document 01, "Posting by one column": "A posting wall takes s beside the sheet".
 use mathlib.Core.Bool.{cond, _&&_}
 use mathlib.Core.List.{List}
 use Prim.Native.Nat.{ℕ, zero, suc, _+_, _-_, _*_}

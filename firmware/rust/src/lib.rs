@@ -2,7 +2,8 @@
 //!
 //! What the calls do is said in `include/column.h` and proved in `crates/column_bytes`. Nothing is tested here: every length and every number is answered
 //! by the call itself. What Rust can say and C cannot is added: that slices do not overlap, whose a state is and of which protocol, that a refusal
-//! must be looked at, and that there may be no record.
+//! must be looked at, and that there may be no record. Depend on it by its path; the archive is looked for in target/staticlib of this repository, or in the
+//! directory that COLUMN_ARCHIVE names.
 #![no_std]
 
 use core::fmt;
@@ -16,6 +17,9 @@ pub const STATE_BYTES: usize = 170;
 pub const MOST_COLUMNS: usize = 31;
 pub const MOST_BYTES: usize = 32;
 pub const MOST_VALUES: usize = 992;
+
+/// The rounds of a posting; `rounds` gives those of an agreement.
+pub const POSTING_ROUNDS: usize = 6;
 
 /// The calls themselves, as include/column.h declares them, for a program that has to lend slices of any length.
 pub mod archive {
@@ -195,7 +199,7 @@ impl<P: Protocol> Column<P> {
     }
 }
 
-/// The rounds of an agreement of n columns; a posting has 6.
+/// The rounds of an agreement of n columns.
 pub fn rounds(n: u32) -> usize {
     archive::column_rounds(n)
 }

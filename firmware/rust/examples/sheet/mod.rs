@@ -1,5 +1,5 @@
 //! A planner's sheet, taken apart: what every example that plays one needs.
-use locker_column::{Entry, Refusal, posting_values, posting_wall, rounds, values, wall};
+use locker_column::{Entry, POSTING_ROUNDS, Refusal, posting_values, posting_wall, rounds, values, wall};
 
 /// What an unsound column says: by receiver, then by round, the values of the message.
 pub type Lines = Vec<Vec<Vec<u16>>>;
@@ -50,7 +50,7 @@ impl Sheet {
 /// The values of a message, round by round.
 fn widths(n: u32, m: u32, posting: bool) -> Vec<usize> {
     if posting {
-        return (1..=6).map(|round| posting_values(n, m, round)).collect();
+        return (1..=POSTING_ROUNDS as u32).map(|round| posting_values(n, m, round)).collect();
     }
     (1..=rounds(n) as u32).map(|round| values(n, m, round)).collect()
 }

@@ -1,5 +1,5 @@
 -- The laws of codewords: a block's values at the points 1 to 32, byte after byte, the last one first.
-use mathlib.Core.Path.{_≡_, refl, sym, ap, ap₂, _∙_}
+use mathlib.Core.Path.{_≡_, refl, sym, ap, _∙_}
 use mathlib.Core.Bool.{cond}
 use mathlib.Core.List.{List, [], _∷_, _++_}
 use Prim.Native.Nat.{ℕ, zero, suc, _+_, _-_, _*_, _≤_, _<_}
@@ -147,7 +147,7 @@ row-written f word part h e =
 pub rows-are : (n m b size : ℕ) (bytes : List ℕ) → b ≡ blocks n m → size ≡ degree n + 1 → rowsOf (rowAt b size bytes) 32 32 ≡ codewords n m bytes
 unfolding codewords codewordAt rowAt
 rows-are n m b size bytes e f =
-    rowsOf-same (rowAt b size bytes) (codewordAt n m bytes) 32 32 (λ row i. value-in n m b size bytes (i + 1) (row - 1) e f)
+    rowsOf-same (rowAt b size bytes) (codewordAt n m bytes) 32 32 (λ row i _ _ _. value-in n m b size bytes (i + 1) (row - 1) e f)
 
 module _ (n m : ℕ) (bytes before : List ℕ) where
   pub codewords-in : length before ≡ 1024 → codewordsIn n m bytes before ≡ codewords n m bytes
@@ -173,13 +173,6 @@ across-is n m bytes i k h l =
 pub length-codewords : (n m : ℕ) (bytes : List ℕ) → length (codewords n m bytes) ≡ 1024
 unfolding codewords
 length-codewords n m bytes = length-rowsOf (codewordAt n m bytes) 32 32
-
--- rows that agree at each place
-pub rows-same : (f g : ℕ → ℕ → ℕ) (w n : ℕ) → ((j k : ℕ) → 1 ≤ j → j ≤ n → k < w → f j k ≡ g j k) → rowsOf f w n ≡ rowsOf g w n
-unfolding rowsOf
-rows-same f g w zero h = refl
-rows-same f g w (suc n) h =
-    ap₂ {C = List ℕ} (λ rows row. rows ++ row) (rows-same f g w n (λ j k l u. h j k l (omega arith))) (listOf-same (f (suc n)) (g (suc n)) w (λ k. h (suc n) k (omega arith) (omega arith)))
 
 module _ (b : ℕ) (words : List ℕ) (i : ℕ) (part : List ℕ) where
   pub across-written : b ≤ length part → i < 32 → 32 * b ≤ length words → writtenAcross b words i part ≡ listOf (across words i) b ++ drop b part

@@ -8,7 +8,7 @@ use lib.Dec.{eqb, leb}
 use lib.ListN.{length, getD, take}
 use mathlib.Core.Path.{_≡_}
 use Rattle.lists.specs.Lists.{count, Below}
-use Rattle.field.specs.Field.{of, subtract, multiply, inverse, blank}
+use Rattle.field.specs.Field.{of, subtract, multiply, inverse}
 use Rattle.block.specs.Block.{value}
 use Rattle.messages.specs.Messages.{from as at}
 use Rattle.sizes.specs.Sizes.{faults, degree, refusal}

@@ -12,7 +12,7 @@ use lib.Seq.{take-at, drop-at, drop-drop, getD-append-add}
 use Rattle.lists.specs.Lists.{count, all, listOf, rowsOf}
 use Rattle.lists.specs.Tests.{conj, and-left, and-right, and-both, is-true, T-ext, eq→eqb}
 use Rattle.lists.specs.Entries.{all-each, each-all, all-same, length-listOf, getD-listOf, getD-within, listOf-same, listOf-cut}
-use Rattle.lists.specs.Rows.{row-fits}
+use Rattle.lists.specs.Rows.{row-fits, rowsOf-same}
 use Rattle.lists.specs.Loops.{all-of, none-behind}
 use Rattle.lists.specs.Count.{count-same}
 use Rattle.field.specs.Field.{blank}
@@ -22,7 +22,7 @@ use Rattle.messages.specs.Messages.{readPoint, readReport, said, heard, times}
 use Rattle.messages.specs.Laws.{point-is, same-report, same-point, heard-own, heard-other}
 use Rattle.codeword.specs.Codeword.{point, values, meetIn, meets, codewords, across, writtenAcross}
 use Rattle.codeword.specs.Apart.{point-lt, length-values, said-values}
-use Rattle.codeword.specs.Words.{across-is, across-written, rows-same}
+use Rattle.codeword.specs.Words.{across-is, across-written}
 use Rattle.dispersal.specs.Dispersal.{exchange, exchanges, agreesIn, agreesWith, agreementAt, agreements, agrees, reportAt, reports, reported, both, readReports, exchangeRefusal, agreed}
 
 -- THE MESSAGE OF THE EXCHANGE
@@ -87,7 +87,7 @@ pub paired-is : (n m own : ℕ) (bytes : List ℕ) (b : ℕ) (words : List ℕ) 
     → rowsOf (paired b words own) (2 * b) n ≡ exchanges n m own bytes
 unfolding paired exchanges
 paired-is n m own bytes b words r e f =
-    rw (e, f) (rows-same (paired (blocks n m) (codewords n m bytes) own) (λ j. said (exchange n m own bytes j)) (2 * blocks n m) n (λ j k l u h.
+    rw (e, f) (rowsOf-same (paired (blocks n m) (codewords n m bytes) own) (λ j. said (exchange n m own bytes j)) (2 * blocks n m) n (λ j k l u h.
     go j k (omega (arith, a .range .columns-high)) l h (decLt k (blocks n m))))
   where
     a : Accepted n m own

@@ -4,15 +4,15 @@ use mathlib.Core.Logic.{_⊎_, inl, inr}
 use mathlib.Core.Bool.{Bool, true, false, cond, not, _&&_}
 use mathlib.Core.List.{List}
 use Prim.Native.Nat.{ℕ, zero, suc, _+_, _-_, _*_, _≤_, _<_}
-use native.Mathlib.Nat.{eq-or-lt-of-le, zero-add, suc-add}
+use native.Mathlib.Nat.{eq-or-lt-of-le}
 use native.Mathlib.Omega.{arith}
 use borrow.Author.Tests.{lt-ltb, le-ltb, ltb-true, ltb-false, ne-eqb}
 use lib.Dec.{T, eqb, leb, ltb, leb→le, le→leb, eqb→eq, not-T}
 use lib.ListN.{getD}
-use Rattle.lists.specs.Lists.{bit, count, listOf}
+use Rattle.lists.specs.Lists.{count, listOf}
 use Rattle.lists.specs.Entries.{getD-listOf}
 use Rattle.lists.specs.Tests.{passes}
-use Rattle.lists.specs.Count.{mono, count-not, count-le, find, Found, count-same}
+use Rattle.lists.specs.Count.{mono, count-not, count-le, find, Found, count-same, count-past}
 use Rattle.field.specs.Field.{blank}
 use Rattle.sizes.specs.Sizes.{faults}
 use Rattle.messages.specs.Messages.{readPoint, from, times}
@@ -118,13 +118,6 @@ better-is n received best t c v u e f g = rw (e, f, g) refl
 -- what was received from column i + 1 of n; blank past n
 unfoldable pub placed : ℕ → (ℕ → ℕ) → ℕ → ℕ
 placed n received i = cond (ltb i n) (received (i + 1)) blank
-
--- columns past n that do not pass add nothing
-count-past : (P : ℕ → Bool) (n k : ℕ) → ((j : ℕ) → n < j → j ≤ k + n → P j ≡ false) → count P (k + n) ≡ count P n
-unfolding count
-count-past P n zero f = rw zero-add refl
-count-past P n (suc k) f =
-    rw suc-add (omega (arith, ap bit (f (suc (k + n)) (omega arith) (omega arith)), count-past P n k (λ j l u. f j l (omega arith))))
 
 module _ (n : ℕ) (received : ℕ → ℕ) where
   pub placed-within : (i : ℕ) → i < n → placed n received i ≡ received (i + 1)

@@ -11,7 +11,7 @@ use lib.ListN.{length, getD, take, drop, replicate}
 use lib.Seq.{ext-getD, getD-take, length-take-le}
 use Rattle.lists.specs.Lists.{all, listOf, rowsOf}
 use Rattle.lists.specs.Entries.{length-listOf, getD-listOf, getD-within, listOf-same}
-use Rattle.lists.specs.Rows.{row-fits}
+use Rattle.lists.specs.Rows.{row-fits, rowsOf-same}
 use Rattle.field.specs.Field.{blank}
 use Rattle.sizes.specs.Sizes.{blocks, refusal}
 use Rattle.sizes.specs.Laws.{accepted, few-blocks}
@@ -19,7 +19,7 @@ use Rattle.messages.specs.Messages.{readPoint, said, from, toAll, laid, heard, 
 use Rattle.messages.specs.Laws.{said-laid, from-place, from-heard, heard-same}
 use Rattle.codeword.specs.Codeword.{values, codewords, across, writtenAcross}
 use Rattle.codeword.specs.Apart.{length-values}
-use Rattle.codeword.specs.Words.{across-is, across-written, rows-same}
+use Rattle.codeword.specs.Words.{across-is, across-written}
 use Rattle.dissemination.specs.Dissemination.{spoken, pointsIn, pointAt, points, pointsToAll, keptPoint, keptAt, keptPoints, isBlock, byteAt, recordOf, roundRefusal, kept}
 use Rattle.dissemination.specs.Kept.{kept-same, kept-unread, kept-reads}
 
@@ -99,7 +99,7 @@ pub points-are : (n m : ℕ) (bytes : List ℕ) (b : ℕ) (words : List ℕ) →
     → rowsOf (pointsAcross words) b n ≡ pointsToAll n m true bytes
 unfolding pointsAcross pointsToAll points spoken
 points-are n m bytes b words r e f =
-    rw (e, f) (rows-same (pointsAcross (codewords n m bytes)) (λ j. said (points n m true bytes j)) (blocks n m) n (λ j k l u h.
+    rw (e, f) (rowsOf-same (pointsAcross (codewords n m bytes)) (λ j. said (points n m true bytes j)) (blocks n m) n (λ j k l u h.
     let place : j - 1 + 1 ≡ j = omega arith in
     across-is n m bytes (j - 1) k (omega (arith, accepted n m 1 r .range .columns-high)) (omega (arith, few-blocks n m 1 r))
     ∙ ap (λ (x : ℕ). said (values n m bytes x) k) place))

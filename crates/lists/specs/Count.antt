@@ -199,3 +199,10 @@ pub longer : (P : ℕ → Bool) (m k : ℕ) → count P m ≤ count P (k + m)
 unfolding count
 longer P m zero = rw zero-add (le-refl (count P m))
 longer P m (suc k) = rw suc-add (omega (arith, longer P m k))
+
+-- columns past n that do not pass add nothing
+pub count-past : (P : ℕ → Bool) (n k : ℕ) → ((j : ℕ) → n < j → j ≤ k + n → P j ≡ false) → count P (k + n) ≡ count P n
+unfolding count
+count-past P n zero f = rw zero-add refl
+count-past P n (suc k) f =
+    rw suc-add (omega (arith, ap bit (f (suc (k + n)) (omega arith) (omega arith)), count-past P n k (λ j l u. f j l (omega arith))))

@@ -23,10 +23,12 @@ module _ {ℓ} {A : Type ℓ} where
   length-rowsOf f w zero = sym (zero-mul w)
   length-rowsOf f w (suc n) = simp (length-append, length-listOf, length-rowsOf f w n, suc-mul)
 
-  pub rowsOf-same : (f g : ℕ → ℕ → A) (w n : ℕ) → ((j k : ℕ) → f j k ≡ g j k) → rowsOf f w n ≡ rowsOf g w n
+  -- rows that agree at each place
+  pub rowsOf-same : (f g : ℕ → ℕ → A) (w n : ℕ) → ((j k : ℕ) → 1 ≤ j → j ≤ n → k < w → f j k ≡ g j k) → rowsOf f w n ≡ rowsOf g w n
   unfolding rowsOf
   rowsOf-same f g w zero h = refl
-  rowsOf-same f g w (suc n) h = ap₂ {C = List A} (λ rows row. rows ++ row) (rowsOf-same f g w n h) (listOf-same (f (suc n)) (g (suc n)) w (λ k _. h (suc n) k))
+  rowsOf-same f g w (suc n) h =
+      ap₂ {C = List A} (λ rows row. rows ++ row) (rowsOf-same f g w n (λ j k l u. h j k l (omega arith))) (listOf-same (f (suc n)) (g (suc n)) w (λ k. h (suc n) k (omega arith) (omega arith)))
 
   -- rows of one value
   pub rowsOf-one : (f : ℕ → ℕ → A) (n : ℕ) → rowsOf f 1 n ≡ listOf (λ i. f (suc i) 0) n

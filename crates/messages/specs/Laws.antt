@@ -96,7 +96,7 @@ not-put bytes part h = simp (lt-leb (length bytes) (length part) h)
 
 pub toAll-same : (n w : ℕ) (message other : List ℕ) → ((k : ℕ) → said message k ≡ said other k) → toAll n w message ≡ toAll n w other
 unfolding toAll
-toAll-same n w message other h = rowsOf-same (λ j. said message) (λ j. said other) w n (λ j k. h k)
+toAll-same n w message other h = rowsOf-same (λ j. said message) (λ j. said other) w n (λ j k _ _ _. h k)
 
 -- REFUSALS
 

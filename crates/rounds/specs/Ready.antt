@@ -57,7 +57,7 @@ pub word-to-all : (kind : Kind) (c : Column) → hasOne kind ≡ true → toAll 
 unfolding toAll toColumns
 word-to-all kind c h =
     let one = one-word kind c h in
-    rw (one .0) (rowsOf-same (λ j. said (word kind c ∷ [])) (λ j. said (message kind c j)) 1 (c .n) (λ j k. ap (λ (l : List ℕ). said l k) (sym (one .1 j))))
+    rw (one .0) (rowsOf-same (λ j. said (word kind c ∷ [])) (λ j. said (message kind c j)) 1 (c .n) (λ j k _ _ _. ap (λ (l : List ℕ). said l k) (sym (one .1 j))))
 
 -- BEHIND THE REFUSALS
 

@@ -20,8 +20,8 @@
  * alter what is said, and nobody speaks in a round before all have listened in the one before: without these nothing is claimed. How a value
  * lies on the wire is the board's affair; the examples send the low byte first.
  *
- * Answers. Each call that makes, drives or asks a column, runs a wall or decodes answers 0, or the number of a refusal (enum column_refusal). A refused call has written to no slice, the state
- * included, and can be made again with better arguments.
+ * Answers. Each call that makes, drives or asks a column, runs a wall or decodes answers 0, or the number of a refusal (enum
+ * column_refusal). A refused call has written to no slice, the state included, and can be made again with better arguments.
  */
 #ifndef COLUMN_H
 #define COLUMN_H

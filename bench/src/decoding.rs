@@ -147,7 +147,8 @@ pub fn table(n: usize, random: &Random) {
         }
     };
     let row = |(name, inputs)| Row::new(name, INPUTS, SIDES.map(|decode| Box::new(move || play(decode, inputs)) as Box<dyn FnMut()>).into());
-    println!("\nn = {n}, t = {}, {} coefficients:", sizes.t, sizes.d + 1);
+    let coefficients = if sizes.d == 0 { "coefficient" } else { "coefficients" };
+    println!("\nn = {n}, t = {}, {} {coefficients}:", sizes.t, sizes.d + 1);
     let rows = timing::measured(cases.iter().map(|(name, inputs)| (*name, &inputs[..])).map(row).collect(), 100);
     timing::print(&["Gao", "Gao by tables and SSE2"], "ns", 1.0, &rows);
 }

@@ -102,7 +102,7 @@ columns-le n m o h g =
     let each : (i : ℕ) → length (lineAt m o i) ≤ 100 = λ i. either-le (ltb i 31) _ _ 100 (column-le m (i + 1) (entryAt (o .entries) i) g) (omega arith) in
     omega (arith, joined-le (lineAt m o) n 100 each)
 
-refused-le : (why : ℕ) → length (refusedLine why) ≤ 3200
+pub refused-le : (why : ℕ) → length (refusedLine why) ≤ 3200
 unfolding refusedLine ascii
 refused-le why = rw length-append (omega (arith, named-le (ascii "refused ") why))
 

@@ -1,5 +1,5 @@
--- No accepted sheet, of an agreement or of a posting, is longer than 42,565 bytes, and so the first 42,566 bytes of a sheet have the listing
--- of the whole.
+-- No accepted sheet, of an agreement or of a posting, is longer than 42,565 bytes, and so the first 42,566 bytes of an input, or more of them, have
+-- the listing of the whole.
 use mathlib.Core.Path.{_≡_, refl, ap}
 use mathlib.Core.Bool.{Bool, true, false}
 use mathlib.Core.List.{List}
@@ -127,12 +127,12 @@ module _ (p : Protocol) (a b : List ℕ) (la : 42565 < length a) (lb : 42565 < l
         same-bytes,
       ) refl
 
--- reading 42,566 bytes of a sheet loses nothing
-pub cut-alike : (p : Protocol) (sheet : List ℕ) → listingOf p (take 42566 sheet) ≡ listingOf p sheet
-cut-alike p sheet = go (decLe (length sheet) 42566)
+-- reading more than 42,565 bytes of a sheet loses nothing
+pub cut-alike : (p : Protocol) (k : ℕ) → 42565 < k → (sheet : List ℕ) → listingOf p (take k sheet) ≡ listingOf p sheet
+cut-alike p k more sheet = go (decLe (length sheet) k)
   where
-    go : Dec (length sheet ≤ 42566) → listingOf p (take 42566 sheet) ≡ listingOf p sheet
-    go (yes h) = ap (listingOf p) (take-all 42566 sheet h)
+    go : Dec (length sheet ≤ k) → listingOf p (take k sheet) ≡ listingOf p sheet
+    go (yes h) = ap (listingOf p) (take-all k sheet h)
     go (no h) =
-        same-listing p (take 42566 sheet) sheet (omega (arith, length-take-le 42566 sheet (omega arith))) (omega arith)
-        (λ i l. getD-take 42566 sheet i 0 (omega arith))
+        same-listing p (take k sheet) sheet (omega (arith, length-take-le k sheet (omega arith))) (omega arith)
+        (λ i l. getD-take k sheet i 0 (omega arith))

@@ -30,7 +30,7 @@ shown-none : (s : List ℕ) → shown [] s ≡ s
 unfolding shown
 shown-none s = take-length s
 
-shown-room : (l s : List ℕ) → length l ≤ length s → shown l s ≡ l ++ drop (length l) s
+pub shown-room : (l s : List ℕ) → length l ≤ length s → shown l s ≡ l ++ drop (length l) s
 unfolding shown
 shown-room l s h = take-all (length s) (l ++ drop (length l) s) (simp (length-append, length-drop) (omega arith))
 

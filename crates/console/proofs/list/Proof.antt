@@ -1,8 +1,8 @@
 -- `list` meets its contract.
 use borrow.Author.Needs.{needs}
 use mathlib.Core.Path.{sym}
-use native.Mathlib.Omega.{arith}
 use lib.Seq.{length-take-le}
+use Rattle.listing.specs.Whole.{printed-within}
 use Rattle.console.proofs.list.Statement.{statement}
 use Rattle.console.proofs.list.Tie as tie
 
@@ -12,23 +12,14 @@ slice-aggregate-read-full c = search needs
 read-full-requires : tie.Need-read-full-requires
 read-full-requires c κs = search needs
 
-array-share-prefix-sheet : tie.Need-array-share-prefix-sheet
-array-share-prefix-sheet c = search needs
-
-slice-aggregate-write : tie.Need-slice-aggregate-write
-slice-aggregate-write c = search needs
-
-slice-aggregate-write-2 : tie.Need-slice-aggregate-write-2
-slice-aggregate-write-2 c = search needs
-
-write-requires : tie.Need-write-requires
-write-requires c κs = search needs
+of-input-requires : tie.Need-of-input-requires
+of-input-requires c κs = search needs
 
 array-share-prefix-text : tie.Need-array-share-prefix-text
-array-share-prefix-text c = search needs
+array-share-prefix-text c = printed-within _ _ (c .before .of-input .result) (c .before .of-input .ensures .0)
 
 slice-aggregate-write-all : tie.Need-slice-aggregate-write-all
-slice-aggregate-write-all c = sym (length-take-le _ _ (omega (arith, c .before .before .write .ensures .0, c .before .before .write .kept .1 .1 .0)))
+slice-aggregate-write-all c = sym (length-take-le _ _ (printed-within _ _ (c .before .before .of-input .result) (c .before .before .of-input .ensures .0)))
 
 write-all-requires : tie.Need-write-all-requires
 write-all-requires c κs = search needs
@@ -42,10 +33,7 @@ list-spec =
     (tie.spec
     slice-aggregate-read-full
     read-full-requires
-    array-share-prefix-sheet
-    slice-aggregate-write
-    slice-aggregate-write-2
-    write-requires
+    of-input-requires
     array-share-prefix-text
     slice-aggregate-write-all
     write-all-requires

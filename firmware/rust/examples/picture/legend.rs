@@ -47,7 +47,7 @@ pub const UNSOUND: Section = (
         (20, |svg, [x, y]| line(svg, [x - 20, y - 6, 40], Manner::AsTheProgram, "", "1: 41"), "as the program would say"),
         (32, |svg, [x, y]| line(svg, [x - 20, y - 6, 40], Manner::Silent, "", "2: -"), "silent: all values blank, though\nthe program would have spoken"),
         (20, |svg, [x, y]| line(svg, [x - 20, y - 6, 40], Manner::Lie, "", "3: 42"), "a lie: anything else"),
-        (44, |_, _| {}, "The program is played in its place with the\nrecord that the sheet gives it; nobody hears it."),
+        (44, |_, _| {}, "It has no true record: lies are measured by the program\nin its place, with the sheet's record or the posted one."),
     ],
 );
 

@@ -104,16 +104,27 @@ impl Picture {
         svg.text("small soft", [self.right() + 12, 155], "as in the listing");
     }
 
+    /// The left of a row: the column's number and mark, and the record that it holds at the start, in a posting of the poster alone. An unsound column has
+    /// no true record: the sheet's is the one that the program is played with in its place.
+    fn name(&self, svg: &mut Svg, i: usize, top: usize) {
+        let (sound, poster) = (self.sheet.lines[i].is_none(), self.poster == Some(i as u32 + 1));
+        svg.text("name", [16, top + 34], &(i + 1).to_string());
+        svg.text("", [52, top + 24], &format!("{}{}", if sound { "sound" } else { "unsound" }, if poster { " poster" } else { "" }));
+        let record = short(self.run.fresh[i].record());
+        let words = match sound {
+            _ if self.poster.is_some() && !poster => [String::new(), String::new()],
+            true => [format!("holds {record}"), String::new()],
+            false => ["lies measured by".into(), record],
+        };
+        for (k, words) in words.iter().enumerate() {
+            svg.text("small soft", [52, top + 38 + 12 * k], words);
+        }
+    }
+
     /// A row: the column, its cells, and what it ended on.
     fn column(&self, svg: &mut Svg, i: usize, top: usize, height: usize) {
         let (sound, entry) = (self.sheet.lines[i].is_none(), &self.run.outcomes[i]);
-        svg.text("name", [16, top + 34], &(i + 1).to_string());
-        svg.text("", [52, top + 24], if sound { "sound" } else { "unsound" });
-        // In a posting nobody but the poster holds a record at the start.
-        if self.poster.is_none_or(|poster| poster as usize == i + 1) {
-            svg.text("small soft", [52, top + 38], &format!("holds {}", short(self.run.fresh[i].record())));
-            svg.text("small soft", [52, top + 50], if self.poster.is_some() { "the poster" } else { "" });
-        }
+        self.name(svg, i, top);
         for (round, (played, &kind)) in self.run.rounds.iter().zip(&self.kinds).enumerate() {
             let cell = Cell { x: self.lefts[round], y: top, width: self.cell, height, column: i + 1, round: round + 1, kind };
             match sound {

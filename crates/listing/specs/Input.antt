@@ -11,6 +11,10 @@ use Rattle.listing.specs.Listing.{listingOf, shown}
 abbrev pub Starts : List ℕ → ℕ → List ℕ → Type 0
 Starts room came input = take (length room) input ≡ take came room
 
--- a listing in 3,200 bytes, zeros behind it
+-- the bytes that every listing has room in
+abbrev pub most : ℕ
+most = 3200
+
+-- a listing in so many bytes, zeros behind it
 unfoldable pub printedOf : Protocol → List ℕ → Printed
-printedOf p sheet = record { bytes = shown (listingOf p sheet) (replicate 3200 0); len = min (length (listingOf p sheet)) 3200 }
+printedOf p sheet = record { bytes = shown (listingOf p sheet) (replicate most 0); len = min (length (listingOf p sheet)) most }

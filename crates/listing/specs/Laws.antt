@@ -102,12 +102,12 @@ columns-le n m o h g =
     let each : (i : ℕ) → length (lineAt m o i) ≤ 100 = λ i. either-le (ltb i 31) _ _ 100 (column-le m (i + 1) (entryAt (o .entries) i) g) (omega arith) in
     omega (arith, joined-le (lineAt m o) n 100 each)
 
-pub refused-le : (why : ℕ) → length (refusedLine why) ≤ 3200
+pub refused-le : (why : ℕ) → length (refusedLine why) ≤ 12
 unfolding refusedLine ascii
 refused-le why = rw length-append (omega (arith, named-le (ascii "refused ") why))
 
--- a slice of 3200 bytes holds the listing of every wall
+-- 3,200 bytes hold the listing of every wall
 pub listing-fits : (p : Protocol) (n m : ℕ) (o : Outcomes) → n ≤ 31 → m ≤ 32 → length (listing p n m o) ≤ 3200
 unfolding listing
 listing-fits p n m o h g =
-    either-le (eqb (o .refusal) 0) _ _ 3200 (rw length-append (omega (arith, sizes-le p n m, columns-le n m o h g))) (refused-le (o .refusal))
+    either-le (eqb (o .refusal) 0) _ _ 3200 (rw length-append (omega (arith, sizes-le p n m, columns-le n m o h g))) (omega (arith, refused-le (o .refusal)))

@@ -1,6 +1,8 @@
 // Plays two runs of a wall of four columns, with records of one byte, by the public calls of a column. In the first run all four are
 // sound and column 4 holds another record; in the second, document 01's worked sheet, column 4 is unsound and tells every neighbour
-// something else. A line is what a column answers for its outcome, column 1 also before the run.
+// something else. A line is what a column answers for its outcome, column 1 also before the run. Then a column of a posting is played by itself.
+mod posted;
+
 use column::Column;
 use column::Outcome;
 use column::Reply;
@@ -155,16 +157,8 @@ fn write_outcome(outcome: Outcome, bytes: [u8; 32]) {
     }
 }
 
-// One line: what the column answers for its outcome.
-fn write_line(column: Column) {
-    io::print_decimal(STDOUT_FILENO, column.own as u64);
-    io::write_all(STDOUT_FILENO, b" grade ");
-    io::print_decimal(STDOUT_FILENO, column.grade as u64);
-    io::write_all(STDOUT_FILENO, b" bit ");
-    io::print_decimal(STDOUT_FILENO, column.vote as u64);
-    let asked = column::outcome(column);
-    let reply = asked.reply;
-    let bytes = asked.bytes;
+// The end of a line: what a column answers for its outcome.
+fn write_reply(reply: Reply, bytes: [u8; 32]) {
     match reply {
         Reply::Ended(outcome) => {
             io::write_all(STDOUT_FILENO, b" record ");
@@ -176,6 +170,19 @@ fn write_line(column: Column) {
         }
     }
     io::write_all(STDOUT_FILENO, b"\n");
+}
+
+// One line: what the column answers for its outcome.
+fn write_line(column: Column) {
+    io::print_decimal(STDOUT_FILENO, column.own as u64);
+    io::write_all(STDOUT_FILENO, b" grade ");
+    io::print_decimal(STDOUT_FILENO, column.grade as u64);
+    io::write_all(STDOUT_FILENO, b" bit ");
+    io::print_decimal(STDOUT_FILENO, column.vote as u64);
+    let asked = column::outcome(column);
+    let reply = asked.reply;
+    let bytes = asked.bytes;
+    write_reply(reply, bytes);
 }
 
 // All rounds, 1 to 11.
@@ -210,4 +217,5 @@ fn run(c: u8, d: u8, lying: bool) {
 fn main() {
     run(0x41, 0x42, false);
     run(0x42, 0x41, true);
+    posted::run();
 }

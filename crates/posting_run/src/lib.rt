@@ -2,32 +2,17 @@
 // number beside the sheet.
 use sizes::Protocol;
 use wall_run::Entry;
-use wall_run::Outcomes;
 ghost use mathlib.Core.Path.{_≡_};
 ghost use Prim.Native.Nat.{_≤_};
 ghost use lib.ListN.{length};
 ghost use Rattle.sizes.specs.declared.Protocol.the-variants.{Posting};
-ghost use Rattle.wall_run.specs.Run.{refusal as refusalOf, outcomes, rowAfter};
+ghost use Rattle.wall_run.specs.Run.{refusal as refusalOf, rowAfter};
 ghost use Rattle.posting_run.specs.Number.{withDigit, readTo, number};
 
-// The refusal of a sheet with a poster's number beside it, for a row of `rows` entries: 1, 2, 3, 4, 5, 6 as document 01 numbers and orders
-// them, or 0 for none.
-pub fn refusal(poster: u8, sheet: &[u8], rows: usize) -> u8
-    ensures { λ r. ⌜ r ≡ refusalOf (Posting poster) (now (sheet .entry)) rows ⌝ }
-{
-    wall_run::refusal(Protocol::Posting(poster), sheet, rows)
-}
-
-// Runs the posting wall that a sheet describes, for a row of `rows` entries, and answers in numbers.
-pub fn outcomes_of(poster: u8, sheet: &[u8], rows: usize) -> Outcomes
-    ensures { λ r. ⌜ r ≡ outcomes (Posting poster) (now (sheet .entry)) rows ⌝ }
-{
-    wall_run::outcomes_of(Protocol::Posting(poster), sheet, rows)
-}
-
 // Runs the posting wall that a sheet describes and writes each column's entry to the row, which must have as many places as the wall has
-// columns. Answers 0, or the number of the refusal; then no entry is written.
-pub fn run<'a>(poster: u8, sheet: &'a [u8], row: &'a mut [Entry]) -> u8
+// columns. Answers 0, or the number of the refusal; then no entry is written. For C the row is an array of structs: firmware/c/posting_rows.c.
+#[no_mangle]
+pub extern "C" fn posting_rows<'a>(poster: u8, sheet: &'a [u8], row: &'a mut [Entry]) -> u8
     ensures { λ r. ⌜ (r ≡ refusalOf (Posting poster) (now (sheet .entry)) (length (now (row .entry)))) × (now (row .exit) ≡ rowAfter (Posting poster) (now (sheet .entry)) (now (row .entry))) ⌝ }
 {
     wall_run::run(Protocol::Posting(poster), sheet, row)

@@ -16,6 +16,7 @@ ghost use Rattle.wall_run.specs.Run.{soundEntry, refusal as refusalOf, r
 
 // What one column came to: its mark, the grade with which it left dispersal, or in a posting that of its outcome, its last vote, whether it
 // ended on a record, and the record's bytes, zeros past m and where there is none. The entry of an unsound column is its mark and zeros.
+#[repr(C)]
 pub struct Entry {
     pub mark: u8,
     pub grade: u8,

@@ -1,4 +1,4 @@
--- `posting_run::run` meets its contract: a walk of its code in the program logic, by hand, since the row is a lent slice of structs. It passes
+-- `posting_rows` meets its contract: a walk of its code in the program logic, by hand, since the row is a lent slice of structs. It passes
 -- the sheet and the row on to `wall_run::run`.
 use mathlib.Core.Path.{_≡_, refl}
 use Prim.Native.Nat.{ℕ, _<_, _^_}
@@ -48,10 +48,10 @@ use Rattle.wall_run.proofs.run as wall-run
 use Rattle.wall_run.proofs.run.Symbol as wall-run-def
 use Rattle.wall_run.proofs.run.Symbol.{name as #wall-run}
 use Rattle.wall_run.proofs.run.Met as wall-run-thm
-use Rattle.posting_run.proofs.run.Key.{name as #run}
-use Rattle.posting_run.proofs.run as the-run
-use Rattle.posting_run.proofs.run.Statement as stated
-use Rattle.posting_run.proofs.run.Code as code
+use Rattle.posting_run.proofs.posting_rows.Key.{name as #run}
+use Rattle.posting_run.proofs.posting_rows as the-run
+use Rattle.posting_run.proofs.posting_rows.Statement as stated
+use Rattle.posting_run.proofs.posting_rows.Code as code
 
 -- what the body still has of its parameters at exit: nothing of the poster's number and the sheet, and the row was given to the wall's run
 abbrev stayed : Stays (the-run.ended .signature .params) (the-run.ended .kept)
@@ -161,9 +161,9 @@ module _ {M : Type 1} (𝓤 : URA M) (H : Heap 𝓤) (A : Atoms 𝓤) (W : Given
       (goes-dropped 𝓤 H A W 1 (plain (λ _. u8)) yes (λ κs x f. refl), (goes-dropped 𝓤 H A W 1 (shrSliceOf (0 ∷ []) tt (plain (λ _. u8))) yes (λ κs x f. refl), (goes-gave-slice 𝓤 H A W 1 0 tt (plain (λ _. T.the-row)), tt))) clauses
       (WpFn 𝓤 H (𝓣 .C) (𝓣 .Λ) code.function) (WpFn-mono 𝓤 H (W .laws) 𝓣 code.function) (walks 𝓣 known)
 
-pub run-spec : {M : Type 1} → stated.statement M
+pub posting-rows-spec : {M : Type 1} → stated.statement M
 unfolding code.routine tablesOf
-run-spec 𝓤 H 𝓜 𝓖 𝓡 =
+posting-rows-spec 𝓤 H 𝓜 𝓖 𝓡 =
     entered 𝓤 H (tripleOf 𝓤 H (𝓖 .A) the-run.signature (the-run.spec 𝓤 H (𝓖 .A) (𝓜 .mem) (𝓡 .run)))
     (tables 𝓤 H 𝓜 𝓡 code.env .C) (tables 𝓤 H 𝓜 𝓡 code.env .Λ) #run code.function (code.unfolded 𝓤 H 𝓜 𝓡)
     (meets 𝓤 H (𝓖 .A) (givenOf 𝓤 H 𝓜 𝓖) (𝓜 .mem) (𝓡 .run) (tablesOf 𝓤 H 𝓜 (tables 𝓤 H 𝓜 𝓡 code.env))

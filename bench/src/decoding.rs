@@ -87,6 +87,11 @@ fn noise(sizes: &Sizes, random: &Random) -> Vec<u16> {
     (0..sizes.n).map(|_| element(random)).collect()
 }
 
+/// Points of walls of 4, 9 and 31 columns that ask the most of a decoder: t errors, and noise.
+pub fn hardest(random: &Random) -> Vec<Vec<u16>> {
+    [4, 9, 31].map(sizes).iter().flat_map(|sizes| [errors(At::First, sizes.t, sizes, random), noise(sizes, random)]).collect()
+}
+
 /// All decoders give the same answers, and these meet enough places.
 pub fn check(random: &Random) {
     let mut answers = [0, 0];

@@ -17,6 +17,7 @@ fn main() {
     match std::env::args().nth(1).as_deref() {
         Some("check") => decoding::check(random),
         Some("growth") => growth::picture(random),
+        Some("stack") => stack::table(random),
         None => {
             println!("## The decoder\n");
             decoding::check(random);
@@ -31,7 +32,7 @@ fn main() {
             stack::table(random);
         }
         Some(_) => {
-            eprintln!("usage: bench [check | growth]");
+            eprintln!("usage: bench [check | growth | stack]");
             exit(2);
         }
     }

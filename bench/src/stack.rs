@@ -1,12 +1,14 @@
 //! How deep the calls go: the bytes of stack that each takes, read off a stack that was painted before.
+use crate::decoding;
 use crate::rounds::{Moment, moments};
-use crate::walls;
-use locker_column::{Agreement, Column as Proved, Entry};
-use reference::calls::{self, ENTRY_BYTES, Of};
-use reference::sizes::{Protocol, Sizes};
+use locker_column::{Agreement, Column as Proved, Entry, Posting, Protocol as Calls, archive};
+use reference::calls::{self, ENTRY_BYTES, Of, STATE_BYTES};
+use reference::sizes::{Kind, Protocol, Sizes};
+use std::hint::black_box;
 use std::thread;
 use trial::random::Random;
-use trial::walls::Mood;
+use trial::records::Camps;
+use trial::walls::{Mood, Plan};
 
 const PAINTED: usize = 1 << 20;
 const PAINT: u8 = 0xa5;
@@ -35,47 +37,130 @@ fn deepest<T: Sync, F: FnMut()>(cases: &[T], call: impl Fn(&T) -> F + Sync) -> u
     })
 }
 
-fn speaking(moments: &[Moment]) -> [usize; 2] {
-    let proved = deepest(moments, |moment| {
-        let (mut column, mut out) = (Box::new(Proved::<Agreement>::from_bytes(calls::encode(&moment.speaks))), vec![0; moment.inbox.len()]);
-        move || column.speak(&mut out).expect("it is to speak")
-    });
-    let reference = deepest(moments, |moment| {
-        let (mut state, mut out) = (calls::encode(&moment.speaks).to_vec(), vec![0; moment.inbox.len()]);
-        move || assert_eq!(calls::speak(Of::Agreements, &mut state, &mut out), 0)
-    });
-    [proved, reference]
+/// The deepest call of each side: the proved one, and the reference's.
+fn both<T: Sync, F: FnMut(), G: FnMut()>(cases: &[T], proved: impl Fn(&T) -> F + Sync, reference: impl Fn(&T) -> G + Sync) -> [usize; 2] {
+    [deepest(cases, proved), deepest(cases, reference)]
 }
 
-fn listening(moments: &[Moment]) -> [usize; 2] {
-    let proved = deepest(moments, |moment| {
-        let (mut column, inbox) = (Box::new(Proved::<Agreement>::from_bytes(calls::encode(&moment.listens))), moment.inbox.clone());
-        move || column.listen(&inbox).expect("it is to listen")
-    });
-    let reference = deepest(moments, |moment| {
-        let (mut state, inbox) = (calls::encode(&moment.listens).to_vec(), moment.inbox.clone());
-        move || assert_eq!(calls::listen(Of::Agreements, &mut state, &inbox), 0)
-    });
-    [proved, reference]
+/// The calls of a protocol, in the order in which a program makes them.
+fn columns<P: Calls>(of: Of, protocol: Protocol, random: &Random) -> [[usize; 2]; 4] {
+    let moments: Vec<Moment> = [4, 9, 31].into_iter().flat_map(|n| moments(protocol, &Sizes::by_formula(n, 32), random)).collect();
+    let made = both(
+        &[4, 9, 31],
+        |&n| {
+            let (record, mut state) = ([1; 32], [0; STATE_BYTES]);
+            move || {
+                let (record, record_len, state, state_len) = (record.as_ptr(), record.len(), state.as_mut_ptr(), state.len());
+                let answer = match protocol {
+                    Protocol::Agreement => unsafe { archive::column_fresh(n, 32, 1, record, record_len, state, state_len) },
+                    Protocol::Posting(poster) => unsafe { archive::posting_fresh(n, 32, 1, poster, record, record_len, state, state_len) },
+                };
+                assert_eq!(answer, 0);
+            }
+        },
+        |&n| {
+            let (record, mut state) = ([1; 32], [0; STATE_BYTES]);
+            move || assert_eq!(calls::fresh(protocol, n, 32, 1, &record, &mut state), 0)
+        },
+    );
+    let spoke = both(
+        &moments,
+        |moment| {
+            let (mut column, mut out) = (Box::new(Proved::<P>::from_bytes(calls::encode(&moment.speaks))), vec![0; moment.inbox.len()]);
+            move || column.speak(&mut out).expect("it is to speak")
+        },
+        |moment| {
+            let (mut state, mut out) = (calls::encode(&moment.speaks).to_vec(), vec![0; moment.inbox.len()]);
+            move || assert_eq!(calls::speak(of, &mut state, &mut out), 0)
+        },
+    );
+    let listened = both(
+        &moments,
+        |moment| {
+            let (mut column, inbox) = (Box::new(Proved::<P>::from_bytes(calls::encode(&moment.listens))), moment.inbox.clone());
+            move || column.listen(&inbox).expect("it is to listen")
+        },
+        |moment| {
+            let (mut state, inbox) = (calls::encode(&moment.listens).to_vec(), moment.inbox.clone());
+            move || assert_eq!(calls::listen(of, &mut state, &inbox), 0)
+        },
+    );
+    let ended: Vec<_> = moments
+        .iter()
+        .filter(|moment| moment.kind == Kind::Kept)
+        .map(|moment| {
+            let mut column = moment.listens;
+            column.listen(&moment.inbox).expect("it is to listen");
+            calls::encode(&column)
+        })
+        .collect();
+    let asked = both(
+        &ended,
+        |&state| {
+            let column = Box::new(Proved::<P>::from_bytes(state));
+            move || {
+                black_box(column.outcome().expect("it has ended"));
+            }
+        },
+        |&state| {
+            let mut entry = [0; ENTRY_BYTES];
+            move || assert_eq!(calls::outcome(of, &state, &mut entry), 0)
+        },
+    );
+    [made, spoke, listened, asked]
 }
 
-fn whole_walls(random: &Random) -> [usize; 2] {
-    let sheets = walls::sheets(31, 32, Mood::Mixed, random);
-    let proved = deepest(&sheets, |sheet| {
-        let (sheet, mut row) = (sheet.clone(), vec![Entry::default(); 31]);
-        move || locker_column::wall(&sheet, &mut row).expect("a sheet of the trial")
-    });
-    let reference = deepest(&sheets, |sheet| {
-        let (sheet, mut row) = (sheet.clone(), vec![0; 31 * ENTRY_BYTES]);
-        move || assert_eq!(calls::wall(Protocol::Agreement, &sheet, &mut row), 0)
-    });
-    [proved, reference]
+/// Walls of 31 columns and 32 bytes.
+fn whole_walls(posting: bool, random: &Random) -> [usize; 2] {
+    let plan = |camps| Plan { n: 31, m: 32, posting, camps, mood: Mood::Mixed, fewer: 0, kings: false, liar_posts: false };
+    let cases = Camps::ALL.map(|camps| plan(camps).case(random));
+    both(
+        &cases,
+        |case| {
+            let (protocol, sheet, mut row) = (case.protocol, case.sheet.clone(), vec![Entry::default(); 31]);
+            move || {
+                let answer = match protocol {
+                    Protocol::Agreement => locker_column::wall(&sheet, &mut row),
+                    Protocol::Posting(poster) => locker_column::posting_wall(poster, &sheet, &mut row),
+                };
+                answer.expect("a sheet of the trial");
+            }
+        },
+        |case| {
+            let (protocol, sheet, mut row) = (case.protocol, case.sheet.clone(), vec![0; 31 * ENTRY_BYTES]);
+            move || assert_eq!(calls::wall(protocol, &sheet, &mut row), 0)
+        },
+    )
+}
+
+fn decoder(random: &Random) -> [usize; 2] {
+    both(
+        &decoding::hardest(random),
+        |points| {
+            let points = points.clone();
+            move || {
+                black_box(locker_column::decode(points.len() as u32, &points).expect("points of a wall"));
+            }
+        },
+        |points| {
+            let (points, mut out) = (points.clone(), [0; 4]);
+            move || assert_eq!(calls::decode_block(points.len() as u32, &points, &mut out), 0)
+        },
+    )
 }
 
 pub fn table(random: &Random) {
-    let moments: Vec<Moment> = [4, 9, 31].into_iter().flat_map(|n| moments(Protocol::Agreement, &Sizes::by_formula(n, 32), random)).collect();
+    let agreement = columns::<Agreement>(Of::Agreements, Protocol::Agreement, random);
+    let posting = columns::<Posting>(Of::Postings, Protocol::Posting(1), random);
+    let names = ["fresh", "speak", "listen", "outcome"];
+    let of = |prefix: &str, depths: [[usize; 2]; 4]| names.map(|name| format!("{prefix}_{name}")).into_iter().zip(depths).collect::<Vec<_>>();
+    let mut rows = of("column", agreement);
+    rows.extend(of("posting", posting));
+    rows.push(("column_decode".into(), decoder(random)));
+    rows.push(("column_wall".into(), whole_walls(false, random)));
+    rows.push(("posting_wall".into(), whole_walls(true, random)));
     println!("\n| deepest call | proved, bytes | reference, bytes | ratio |\n| --- | ---: | ---: | ---: |");
-    for (name, [proved, reference]) in [("speak", speaking(&moments)), ("listen", listening(&moments)), ("whole wall", whole_walls(random))] {
-        println!("| {name} | {proved} | {reference} | {:.2} |", proved as f64 / reference as f64);
+    for (name, [proved, reference]) in rows {
+        println!("| `{name}` | {proved} | {reference} | {:.2} |", proved as f64 / reference as f64);
     }
 }

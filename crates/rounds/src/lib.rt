@@ -72,10 +72,10 @@ pub fn say(kind: Kind, column: Column, out: &mut [u16]) -> u8
 pub fn hear(kind: Kind, next: Stage, column: Column, inbox: &[u16]) -> Answered
     ensures { λ r. ⌜ r ≡ heardIn kind next column (now (inbox .entry)) ⌝ }
 {
-    let why = refusal(kind, column, inbox.len());
-    if why != 0 {
+    let refused = refusal(kind, column, inbox.len());
+    if refused != 0 {
         return Answered {
-            answer: Answer::Refused(why),
+            answer: Answer::Refused(refused),
             column: column,
         };
     }

@@ -56,8 +56,9 @@ extern "C" {
 #define COLUMN_BYTES(variable) ((uint8_t *)&(variable)), sizeof(variable)
 
 /*
- * Why a call was refused. Where several reasons hold, the first of this order is told: 4 for a state that has not COLUMN_STATE_BYTES to be
- * read from, then a state's (11, 10, 7, 8, 9), then the input's (1, 2, 3, 4, 5, 6). A sheet has its own order, see column_wall.
+ * Why a call was refused. Where several reasons hold, the first of this order is told: 4 for the slice of a state that is not COLUMN_STATE_BYTES
+ * long, since no state can be read from it; then a state's (11, 10, 7, 8, 9); then the input's (1, 2, 3, 4, 5, 6). A sheet has its own order,
+ * see column_wall.
  */
 enum column_refusal {
     COLUMN_DONE = 0,

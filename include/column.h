@@ -70,22 +70,23 @@ extern "C" {
 #define COLUMN_BYTES(variable) ((uint8_t *)&(variable)), sizeof(variable)
 
 /*
- * Why a call was refused. Where several reasons hold, the first of this order is told: a state's (11, 10, 7, 8, 9), then the
- * input's (1, 2, 3, 4, 5, 6). A sheet has its own order, see column_wall.
+ * Why a call was refused. Where several reasons hold, the first of this order is told: 4 for the slice of a state that is not COLUMN_STATE_BYTES
+ * long, since no state can be read from it; then a state's (11, 10, 7, 8, 9); then the input's (1, 2, 3, 4, 5, 6). A sheet has its own order,
+ * see column_wall.
  */
 enum column_refusal {
     COLUMN_DONE = 0,
     COLUMN_BAD_WALL = 1,     /* n is not 4 to 31 */
     COLUMN_BAD_RECORD = 2,   /* m is not 1 to 32 */
     COLUMN_BAD_NUMBER = 3,   /* a column's number is not 1 to n */
-    COLUMN_BAD_LENGTH = 4,   /* a slice, or a sheet, has not the length that the call asks for */
+    COLUMN_BAD_LENGTH = 4,   /* a slice, a state's and a sheet included, has not the length that the call asks for */
     COLUMN_BAD_MARK = 5,     /* a mark of a sheet is neither 0 nor 1 */
     COLUMN_TOO_MANY = 6,     /* a sheet marks more than (n - 1) / 3 columns as unsound */
     COLUMN_MUST_LISTEN = 7,  /* asked to speak, but it spoke in this round and has to listen */
     COLUMN_MUST_SPEAK = 8,   /* asked to listen, but it has not spoken in this round */
     COLUMN_NOT_ENDED = 9,    /* asked for the outcome before the end */
     COLUMN_ENDED = 10,       /* asked to speak or listen after the end */
-    COLUMN_NO_STATE = 11     /* the bytes are no state, or one of the other protocol, or a number in them is out of its range */
+    COLUMN_NO_STATE = 11     /* the 170 bytes are no state, or one of the other protocol, or a number in them is out of its range */
 };
 
 /* What a column is to do next. */
@@ -133,10 +134,13 @@ COLUMN_ASSERT(sizeof(struct column_entry) == COLUMN_ENTRY_BYTES, "an entry has 3
 
 /* AN AGREEMENT */
 
-/* The rounds of a wall of n columns: 3 t + 8, where t is (n - 1) / 3. Of an n that is no wall's too; column_fresh refuses it. */
+/* The rounds of a wall of n columns: 3 t + 8, where t is (n - 1) / 3; 0 where n is not 4 to 31. */
 size_t column_rounds(uint32_t n);
 
-/* The values of one message in a round, counted from 1; 0 in a round that a run does not have. The slices of that round have n times as many. */
+/*
+ * The values of one message in a round, counted from 1. The slices of that round have n times as many. 0 where n is not 4 to 31, m not 1 to 32,
+ * or the run has no such round.
+ */
 size_t column_values(uint32_t n, uint32_t m, uint32_t round);
 
 /*
@@ -147,18 +151,21 @@ uint8_t column_fresh(uint32_t n, uint32_t m, uint32_t own, const uint8_t *record
 
 /*
  * Writes the messages of the round: one for each column, itself included, by column number, each column_values(n, m, round) values long.
- * out_len is n times that; state_len is COLUMN_STATE_BYTES. Refused with 11, 10, 7, 4.
+ * out_len is n times that; state_len is COLUMN_STATE_BYTES. Refused with 4 for another state_len, then with 11, 10, 7, and with 4 for another
+ * out_len.
  */
 uint8_t column_speak(uint8_t *state, size_t state_len, uint16_t *out, size_t out_len);
 
 /*
  * Reads the messages of the round: one from each column, by column number, in a slice as long as column_speak's. Whatever is not a legal value
- * counts as blank, and what lies at the column's own place is not read. Refused with 11, 10, 8, 4.
+ * counts as blank, and what lies at the column's own place is not read. Refused with 4 for another state_len, then with 11, 10, 8, and with 4
+ * for another inbox_len.
  */
 uint8_t column_listen(uint8_t *state, size_t state_len, const uint16_t *inbox, size_t inbox_len);
 
 /*
- * Writes what the column ended on, a struct column_entry with the mark 0. out_len is COLUMN_ENTRY_BYTES. Refused with 11, 9, 4.
+ * Writes what the column ended on, a struct column_entry with the mark 0. out_len is COLUMN_ENTRY_BYTES. Refused with 4 for another
+ * state_len, then with 11, 9, and with 4 for another out_len.
  */
 uint8_t column_outcome(const uint8_t *state, size_t state_len, uint8_t *out, size_t out_len);
 
@@ -171,7 +178,7 @@ uint8_t column_wall(const uint8_t *sheet, size_t sheet_len, uint8_t *row, size_t
 
 /* A POSTING: column `poster` posts its record to all others. A state of one protocol is no state (11) to the other's calls. */
 
-/* The values of one message in a round, 1 to POSTING_ROUNDS. */
+/* As column_values, with the rounds 1 to POSTING_ROUNDS. */
 size_t posting_values(uint32_t n, uint32_t m, uint32_t round);
 
 /* As column_fresh; every column is handed a record, and only the poster's is kept. */

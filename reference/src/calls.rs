@@ -44,10 +44,10 @@ pub fn encode(column: &Column) -> [u8; STATE_BYTES] {
     bytes
 }
 
-/// The state of a protocol that bytes are, or refusal 11.
+/// The state of a protocol that bytes are; refused with 4 for a slice of another length, then with 11.
 pub fn decode(of: Of, bytes: &[u8]) -> Result<Column, Refusal> {
     let no_state = Refusal(11);
-    let bytes: &[u8; STATE_BYTES] = bytes.try_into().map_err(|_| no_state)?;
+    let bytes: &[u8; STATE_BYTES] = bytes.try_into().map_err(|_| Refusal(4))?;
     let [1, poster, n, m, own, stage, round, grade, vote, firm, ..] = *bytes else { return Err(no_state) };
     let protocol = match (of, poster) {
         (Of::Agreements, 0) => Protocol::Agreement,
@@ -95,15 +95,15 @@ fn of_length(slice: usize, length: usize) -> Result<(), Refusal> {
     if slice == length { Ok(()) } else { Err(Refusal(4)) }
 }
 
-/// The rounds of an agreement, by the formula; a number from 256 on counts as 255.
+/// The rounds of an agreement; 0 for an n that is no wall's.
 pub fn rounds(n: u32) -> usize {
-    Sizes::by_formula(n.min(255), 1).rounds(Protocol::Agreement)
+    Sizes::of(n, 1).map_or(0, |sizes| sizes.rounds(Protocol::Agreement))
 }
 
-/// The values of a message in a round, by the formula; 0 in a round that a run does not have.
+/// The values of a message in a round; 0 where n or m is no wall's, or the run has no such round.
 pub fn values(protocol: Protocol, n: u32, m: u32, round: u32) -> usize {
-    let sizes = Sizes::by_formula(n.min(255), m.min(255));
-    sizes.kind(protocol, round.min(255) as usize).map_or(0, |kind| sizes.values(kind))
+    let Ok(sizes) = Sizes::of(n, m) else { return 0 };
+    sizes.kind(protocol, round as usize).map_or(0, |kind| sizes.values(kind))
 }
 
 pub fn fresh(protocol: Protocol, n: u32, m: u32, own: u32, record: &[u8], state: &mut [u8]) -> u8 {

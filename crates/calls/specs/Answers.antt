@@ -117,9 +117,9 @@ module _ (p : Protocol) (c : Column) where
 
   -- the column after a call to listen
   pub heard-is : (inbox : List ℕ) → listenRefusal p c (length inbox) ≡ 0
-      → recast p (c .vote) (heardIn (kindIn p (c .n) (roundOf (c .stage))) (Speak (roundOf (c .stage) + 1)) (voting p c) inbox)
+      → recast p (c .vote) (heardIn (kindIn p (c .n) (roundOf (c .stage))) (Speak (roundOf (c .stage) + 1)) (voting p c) inbox .column)
       ≡ listens p (roundOf (c .stage)) c inbox
-  unfolding heardIn listens
+  unfolding heardIn answered listens
   heard-is inbox e = rw (may-listen (length inbox) e .accepts) refl
 
   -- the slice after a call to speak

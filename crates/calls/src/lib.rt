@@ -66,20 +66,14 @@ pub fn listen(protocol: Protocol, column: Column, inbox: &[u16]) -> Answered
     }
     let stage = column.stage;
     let round = refusals::round_of(stage);
-    answered(
-        why,
-        votes::recast(
-            protocol,
-            column.vote,
-            rounds::hear(
-                kinds::kind_in(protocol, column.n, round),
-                Stage::Speak(round + 1),
-                votes::voting(protocol, column),
-                inbox,
-            ),
-        ),
-        column,
-    )
+    let heard = rounds::hear(
+        kinds::kind_in(protocol, column.n, round),
+        Stage::Speak(round + 1),
+        votes::voting(protocol, column),
+        inbox,
+    );
+    let after = heard.column;
+    answered(why, votes::recast(protocol, column.vote, after), column)
 }
 
 // What the column ended on, with the record's bytes: zeros past m, and zeros where there is none. Refused with 11, then with 9 before the

@@ -9,6 +9,7 @@ use Rattle.lists.specs.Lists.{bit}
 use Rattle.field.specs.Field.{blank}
 use Rattle.sizes.specs.declared.Protocol.{Protocol}
 use Rattle.sizes.specs.declared.Protocol.the-variants.{Posting}
+use Rattle.sizes.specs.Sizes.{rounds, roundsIn, valuesIn, outside}
 use Rattle.messages.specs.Messages.{refusal, unlessRefused}
 use Rattle.decoder.specs.declared.Decoded.{Decoded}
 use Rattle.decoder.specs.declared.Decoded.the-variants.{Polynomial, Nothing, Refused}
@@ -25,15 +26,28 @@ use Rattle.state_bytes.specs.Layout.{encode, decode, isState}
 unfoldable pub narrow : ℕ → ℕ
 narrow v = cond (ltb v 256) v 255
 
+-- HOW LONG A RUN AND ITS MESSAGES ARE: 0 where n or m is no wall's, or the run has no such round
+
+unfoldable pub roundsOf : ℕ → ℕ
+roundsOf n = cond (outside 4 31 n) 0 (rounds n)
+
+unfoldable pub valuesOf : Protocol → ℕ → ℕ → ℕ → ℕ
+valuesOf p n m round = cond (outside 4 31 n) 0 (cond (outside 1 32 m) 0 (cond (outside 1 (roundsIn p n) round) 0 (valuesIn p n m round)))
+
 -- AN ENTRY is 36 bytes: mark, grade, vote, 1 for a record or 0 for none, and the record's 32 places
 unfoldable pub entryBytes : Entry → List ℕ
 entryBytes e = e .mark ∷ e .grade ∷ e .vote ∷ bit (e .has_record) ∷ e .bytes
 
--- A COLUMN. Bytes that are no state are refused with 11, before everything else; a slice for an answer that has not its length with 4, after
--- everything else
+-- A COLUMN. "4: a slice .. whose length is not the one required": from a slice that has not a state's length no state can be read, and the call
+-- answers 4 before everything else; bytes of that length that are no state are refused with 11, before the refusals of the call. A slice for
+-- an answer that has not its length is refused with 4 after everything else
 
+unfoldable pub stateRefusal : Protocol → List ℕ → ℕ
+stateRefusal p state = cond (eqb (length state) 170) (cond (isState p state) 0 11) 4
+
+-- the number of a call whose own is `why`
 unfoldable pub numbered : Protocol → List ℕ → ℕ → ℕ
-numbered p state why = cond (isState p state) why 11
+numbered p state why = C.orElse (stateRefusal p state) why
 
 -- the protocol that a state of a posting runs: its poster's number is in it
 unfoldable pub postingOf : List ℕ → Protocol

@@ -5,7 +5,7 @@ use mathlib.Core.List.{List, [], _∷_, _++_, append-assoc, append-nil}
 use Prim.Native.Nat.{ℕ, _+_, _-_, _*_, _/_, _%_, _≤_, _<_}
 use native.Mathlib.Numerals.{add-one}
 use native.Mathlib.Omega.{arith}
-use borrow.Author.Tests.{eqb-true, eqb-false}
+use borrow.Author.Tests.{eq-eqb, ne-eqb, eqb-true, eqb-false}
 use lib.Dec.{eqb, eqb→eq}
 use lib.ListN.{length, take, drop, length-append, length-drop, drop-of-length-le}
 use Rattle.lists.specs.Lists.{all, listOf}
@@ -16,6 +16,7 @@ use Rattle.sizes.specs.declared.Protocol.{Protocol}
 use Rattle.field.specs.Field.{blank}
 use Rattle.messages.specs.Messages.{said, written, refusal, unlessRefused}
 use Rattle.messages.specs.Laws.{written-fits, put-fits, refused-before, not-refused, if-refused}
+use Rattle.agreement.specs.Calls.{orElse}
 use Rattle.wall_run.specs.declared.Entry.{Entry}
 use Rattle.wall_run.specs.declared.Outcomes.{Outcomes}
 use Rattle.wall_run.specs.Run.{entries, outcomes, settled}
@@ -23,7 +24,7 @@ use Rattle.wall_run.specs.Run as W
 use Rattle.wall_run.specs.Row.{entryAt, accepted-run, outcomes-refusal, run-settled, in-places}
 use Rattle.state_bytes.specs.Layout.{isFlag, areNumbers, isState}
 use Rattle.state_bytes.specs.Writing.{Fronted, fronted-more, fronted-all}
-use Rattle.column_bytes.specs.Calls.{numbered, entryBytes, rowBytes, places, wallAnswer}
+use Rattle.column_bytes.specs.Calls.{stateRefusal, numbered, entryBytes, rowBytes, places, wallAnswer}
 
 -- a message that fills the slice
 pub written-whole : (w : ℕ) (message part : List ℕ) → length message ≡ w → length part ≡ w → written w message part ≡ message
@@ -33,35 +34,62 @@ written-whole w message part e l =
 
 -- A STATE
 
+-- every state has its length
+state-length : (p : Protocol) (state : List ℕ) → isState p state ≡ true → length state ≡ 170
+unfolding isState
+state-length p state s =
+    eqb→eq (length state) 170
+    (and-left (eqb (length state) 170) (areNumbers p state) (and-left (eqb (length state) 170 && areNumbers p state) (all (isFlag state 44) 62) (passes (isState p state) s)))
+
 module _ (p : Protocol) (state : List ℕ) where
-  pub of-state : (why : ℕ) → isState p state ≡ true → numbered p state why ≡ why
-  unfolding numbered
-  of-state why s = rw s refl
+  pub state-accepted : isState p state ≡ true → stateRefusal p state ≡ 0
+  unfolding stateRefusal
+  state-accepted s = rw (eq-eqb (length state) 170 (state-length p state s), s) refl
 
-  -- its slice has its length
-  pub fits-state : (why : ℕ) → isState p state ≡ true → refusal why 1 170 (length state) ≡ numbered p state why
-  unfolding isState
-  fits-state why s = go (eqb why 0) refl ∙ sym (of-state why s)
+  -- bytes that are not refused are a state
+  pub is-state : stateRefusal p state ≡ 0 → isState p state ≡ true
+  unfolding stateRefusal
+  is-state = go (eqb (length state) 170) (isState p state) refl
     where
-      len : length state ≡ 170
-      len =
-          eqb→eq (length state) 170
-          (and-left (eqb (length state) 170) (areNumbers p state) (and-left (eqb (length state) 170 && areNumbers p state) (all (isFlag state 44) 62) (passes (isState p state) s)))
+      go : (a b : Bool) → isState p state ≡ b → _≡_ {A = ℕ} (cond a (cond b 0 11) 4) 0 → isState p state ≡ true
+      go true true e h = e
+      go true false e h = absurd (omega arith)
+      go false b e h = absurd (omega arith)
 
-      go : (b : Bool) → eqb why 0 ≡ b → refusal why 1 170 (length state) ≡ why
-      go true e = let z = eqb-true why 0 e in not-refused why 1 170 (length state) z len ∙ sym z
-      go false e = refused-before why 1 170 (length state) (eqb-false why 0 e)
+  module _ (why : ℕ) where
+    pub of-state : stateRefusal p state ≡ 0 → numbered p state why ≡ why
+    unfolding numbered orElse
+    of-state s = rw s refl
 
-  pub no-state : (why : ℕ) → isState p state ≡ false → numbered p state why ≡ 11
-  unfolding numbered
-  no-state why s = rw s refl
+    -- its slice has its length
+    pub fits-state : stateRefusal p state ≡ 0 → refusal why 1 170 (length state) ≡ numbered p state why
+    fits-state s = go (eqb why 0) refl ∙ sym (of-state s)
+      where
+        len : length state ≡ 170
+        len = state-length p state (is-state s)
 
-  pub no-state-first : (why n w len : ℕ) → isState p state ≡ false → refusal (numbered p state why) n w len ≡ 11
-  no-state-first why n w len s = let e = no-state why s in refused-before _ n w len (λ z. omega (arith, e, z)) ∙ e
+        go : (b : Bool) → eqb why 0 ≡ b → refusal why 1 170 (length state) ≡ why
+        go true e = let z = eqb-true why 0 e in not-refused why 1 170 (length state) z len ∙ sym z
+        go false e = refused-before why 1 170 (length state) (eqb-false why 0 e)
 
--- a call that is refused with it leaves every slice as it was
-pub left-by-11 : (why : ℕ) (done before : List ℕ) → why ≡ 11 → unlessRefused why done before ≡ before
-left-by-11 why done before e = if-refused why done before (λ z. omega (arith, e, z))
+  -- bytes that are refused: their number comes first, and every slice stays as it was
+  module _ (r : ℕ) (bad : r ≡ stateRefusal p state) (h : r ≡ 0 → ⊥) where
+    pub no-state : isState p state ≡ false
+    no-state = go (isState p state) refl
+      where
+        go : (b : Bool) → isState p state ≡ b → b ≡ false
+        go true e = absurd (h (bad ∙ state-accepted e))
+        go false e = refl
+
+    pub state-first : (why : ℕ) → r ≡ numbered p state why
+    unfolding numbered orElse
+    state-first why = rw (← bad, ne-eqb r 0 h) refl
+
+    pub state-before : (why n w len : ℕ) → r ≡ refusal (numbered p state why) n w len
+    state-before why n w len = let e = state-first why in e ∙ sym (refused-before _ n w len (λ z. h (e ∙ z)))
+
+    pub left-alone : (why : ℕ) (done before : List ℕ) → r ≡ why → before ≡ unlessRefused why done before
+    left-alone why done before e = sym (if-refused why done before (λ z. h (e ∙ z)))
 
 -- ENTRIES, ONE AFTER THE OTHER
 

@@ -27,10 +27,11 @@ use Rattle.agreement.specs.Turns.{refused-state}
 use Rattle.agreement.specs.Shapes.{Shaped, fresh-shaped, after-shaped}
 use Rattle.agreement.specs.Theorem.{third-demand}
 use Rattle.agreement.specs.Posting.{posts}
-use Rattle.wall_run.specs.Run.{hasRecord, gradeShown, soundEntry}
+use Rattle.wall_run.specs.Run.{hasRecord, gradeShown, entryAsked, soundEntry}
 use Rattle.state_bytes.specs.Layout.{posterByte, numbers, encode}
 use Rattle.state_bytes.specs.Inverse.{decode-encode, encode-is-state}
 use Rattle.column_bytes.specs.Calls.{entryBytes, numbered, postingOf, freshAnswer, freshState, speakAnswer, speakState, speakOut, listenAnswer, listenState, outcomeAnswer, outcomeOut}
+use Rattle.column_bytes.specs.Laws.{state-accepted, of-state}
 
 -- LISTS OF CALLS ON BYTES: those of `column_speak`, `column_listen`, `column_outcome`, or of `posting_speak`, `posting_listen`, `posting_outcome`
 
@@ -84,11 +85,15 @@ whole why = go (eqb why 0) refl
     go false e = refl
 
 module _ (p : Protocol) (c : Column) (s : Shaped c) where
+  -- what a column is written as is a state
+  numbered-is : (why : ℕ) → numbered p (encode p c) why ≡ why
+  numbered-is why = of-state p (encode p c) why (state-accepted p (encode p c) (encode-is-state p c s))
+
   pub same-refusal : (call : Call) → refusalAt p (encode p c) call ≡ L.refusalAt p c call
-  unfolding refusalAt L.refusalAt speakAnswer listenAnswer outcomeAnswer numbered
-  same-refusal (Speaks out) = rw (runs-is p c, encode-is-state p c s, decode-encode p c s) refl
-  same-refusal (Listens inbox) = rw (runs-is p c, encode-is-state p c s, decode-encode p c s) refl
-  same-refusal Asks = rw (runs-is p c, encode-is-state p c s, decode-encode p c s, reply-refusal p c) (whole (outcomeRefusal p c))
+  unfolding refusalAt L.refusalAt speakAnswer listenAnswer outcomeAnswer
+  same-refusal (Speaks out) = rw (runs-is p c, numbered-is, decode-encode p c s) refl
+  same-refusal (Listens inbox) = rw (runs-is p c, numbered-is, decode-encode p c s) refl
+  same-refusal Asks = rw (runs-is p c, numbered-is, decode-encode p c s, reply-refusal p c) (whole (outcomeRefusal p c))
 
   pub same-slice : (out : List ℕ) → speakOut (runs p (encode p c)) (encode p c) out ≡ C.written p c out
   unfolding speakOut
@@ -104,9 +109,9 @@ module _ (p : Protocol) (c : Column) (s : Shaped c) where
       go false e = ap (λ (d : Column). encode p d) (sym (refused-state p c call (eqb-false (L.refusalAt p c call) 0 e)))
 
   pub same-after : (call : Call) → after p (encode p c) call ≡ encode p (L.after p c call)
-  unfolding after L.after speakState speakAnswer listenState listenAnswer numbered L.refusalAt outcome
-  same-after (Speaks out) = rw (runs-is p c, encode-is-state p c s, decode-encode p c s) (kept (Speaks out))
-  same-after (Listens inbox) = rw (runs-is p c, encode-is-state p c s, decode-encode p c s) (kept (Listens inbox))
+  unfolding after L.after speakState speakAnswer listenState listenAnswer L.refusalAt outcome
+  same-after (Speaks out) = rw (runs-is p c, numbered-is, decode-encode p c s) (kept (Speaks out))
+  same-after (Listens inbox) = rw (runs-is p c, numbered-is, decode-encode p c s) (kept (Listens inbox))
   same-after Asks = refl
 
 pub same-final : (p : Protocol) (c : Column) (items : List Item) → Shaped c → final p (encode p c) items ≡ encode p (L.final p c items)
@@ -136,19 +141,19 @@ told-is m (Refused why) bytes = refl
 
 module _ (p : Protocol) (m : ℕ) (c : Column) (value : Option (List ℕ)) (row : List ℕ) (s : Shaped c) (l : length row ≡ 36) (a : Answers p m c value) where
   asked : outcomeAnswer (runs p (encode p c)) (encode p c) row ≡ 0
-  unfolding outcomeAnswer numbered
-  asked = rw (runs-is p c, encode-is-state p c s, decode-encode p c s) (not-refused (outcomeRefusal p c) 1 36 (length row) (sym (reply-refusal p c) ∙ a .0) l)
+  unfolding outcomeAnswer
+  asked = rw (runs-is p c, numbered-is p c s, decode-encode p c s) (not-refused (outcomeRefusal p c) 1 36 (length row) (sym (reply-refusal p c) ∙ a .0) l)
 
   entry-is : outcomeOut (runs p (encode p c)) (encode p c) row ≡ entryBytes (soundEntry p c)
   unfolding outcomeOut
   entry-is = if-done _ _ row asked ∙ rw (runs-is p c, decode-encode p c s) refl
 
   told-value : told m (outcomeOut (runs p (encode p c)) (encode p c) row) ≡ value
-  unfolding told entryBytes soundEntry
+  unfolding told entryBytes soundEntry entryAsked
   told-value = rw entry-is (told-is m (outcome p c .reply) (outcome p c .bytes) ∙ a .1)
 
   told-grade : getD (outcomeOut (runs p (encode p c)) (encode p c) row) 1 0 ≡ gradeShown p (c .grade) (outcome p c .reply)
-  unfolding entryBytes soundEntry
+  unfolding entryBytes soundEntry entryAsked
   told-grade = rw entry-is refl
 
 -- AT EVERY PLACE OF A LIST: column i was made in a slice of a state's length, and the calls `before` were made

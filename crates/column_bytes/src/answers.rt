@@ -8,7 +8,7 @@ ghost use lib.ListN.{length};
 ghost use Rattle.messages.specs.Messages.{refusal, unlessRefused};
 ghost use Rattle.agreement.specs.Calls.{refusalOf};
 ghost use Rattle.state_bytes.specs.Layout.{encode};
-ghost use Rattle.column_bytes.specs.Calls.{narrow as narrowOf, freshAnswer, freshState, speakAnswer, speakState, speakOut, listenAnswer, listenState, outcomeAnswer, outcomeOut};
+ghost use Rattle.column_bytes.specs.Calls.{narrow as narrowOf, valuesOf, stateRefusal, freshAnswer, freshState, speakAnswer, speakState, speakOut, listenAnswer, listenState, outcomeAnswer, outcomeOut};
 
 // A size or a column's number as a byte; from 256 on 255, which is refused everywhere.
 pub(super) fn narrow(v: u32) -> u8
@@ -18,6 +18,36 @@ pub(super) fn narrow(v: u32) -> u8
         return v as u8;
     }
     255
+}
+
+// The values of one message in a round; 0 where n or m is no wall's, or the run has no such round.
+pub(super) fn values(protocol: Protocol, n: u32, m: u32, round: u32) -> usize
+    ensures { λ r. ⌜ r ≡ valuesOf protocol n m round ⌝ }
+{
+    if sizes::outside(4, 31, n as usize) {
+        return 0;
+    }
+    if sizes::outside(1, 32, m as usize) {
+        return 0;
+    }
+    let last = sizes::rounds_in(protocol, n as u8);
+    if sizes::outside(1, last, round as usize) {
+        return 0;
+    }
+    sizes::values_in(protocol, n as u8, m as u8, round as u8)
+}
+
+// The refusal of a state's bytes: 4 for another length, then 11 for bytes that are no state, or 0.
+fn state_refusal(protocol: Protocol, state: &[u8]) -> u8
+    ensures { λ r. ⌜ r ≡ stateRefusal protocol (now (state .entry)) ⌝ }
+{
+    if state.len() != 170 {
+        return 4;
+    }
+    if state_bytes::is_state(protocol, state) {
+        return 0;
+    }
+    11
 }
 
 // 0, or the number of the refusal.
@@ -62,8 +92,9 @@ pub(super) fn speak(protocol: Protocol, state: &mut [u8], out: &mut [u16]) -> u8
     ensures { λ r. ⌜ (r ≡ speakAnswer protocol (now (state .entry)) (now (out .entry))) × (now (state .exit) ≡ speakState protocol (now (state .entry)) (now (out .entry)))
         × (now (out .exit) ≡ speakOut protocol (now (state .entry)) (now (out .entry))) ⌝ }
 {
-    if !state_bytes::is_state(protocol, state) {
-        return 11;
+    let bad = state_refusal(protocol, state);
+    if bad != 0 {
+        return bad;
     }
     let column = state_bytes::decode(state);
     keep(protocol, calls::speak(protocol, column, out), state)
@@ -72,8 +103,9 @@ pub(super) fn speak(protocol: Protocol, state: &mut [u8], out: &mut [u16]) -> u8
 pub(super) fn listen(protocol: Protocol, state: &mut [u8], inbox: &[u16]) -> u8
     ensures { λ r. ⌜ (r ≡ listenAnswer protocol (now (state .entry)) (now (inbox .entry))) × (now (state .exit) ≡ listenState protocol (now (state .entry)) (now (inbox .entry))) ⌝ }
 {
-    if !state_bytes::is_state(protocol, state) {
-        return 11;
+    let bad = state_refusal(protocol, state);
+    if bad != 0 {
+        return bad;
     }
     let column = state_bytes::decode(state);
     keep(protocol, calls::listen(protocol, column, inbox), state)
@@ -82,14 +114,16 @@ pub(super) fn listen(protocol: Protocol, state: &mut [u8], inbox: &[u16]) -> u8
 pub(super) fn outcome(protocol: Protocol, state: &[u8], out: &mut [u8]) -> u8
     ensures { λ r. ⌜ (r ≡ outcomeAnswer protocol (now (state .entry)) (now (out .entry))) × (now (out .exit) ≡ outcomeOut protocol (now (state .entry)) (now (out .entry))) ⌝ }
 {
-    if !state_bytes::is_state(protocol, state) {
-        return 11;
+    let bad = state_refusal(protocol, state);
+    if bad != 0 {
+        return bad;
     }
-    let column = state_bytes::decode(state);
-    let refused = messages::refusal(refusals::to_ask(protocol, column), 1, 36, out.len());
+    let told = wall_run::sound_entry(protocol, state_bytes::decode(state));
+    let refused = messages::refusal(told.refusal, 1, 36, out.len());
     if refused != 0 {
         return refused;
     }
-    rows::put_entry(wall_run::sound_entry(protocol, column), out);
+    let entry = told.entry;
+    rows::put_entry(entry, out);
     0
 }

@@ -5,8 +5,9 @@ use mathlib.Core.Bool.{cond}
 use mathlib.Core.List.{List}
 use Prim.Native.Nat.{ℕ, _+_, _-_, _*_}
 use Rattle.lists.specs.Lists.{rowsOf}
-use Rattle.messages.specs.Messages.{said}
-use Rattle.sheet.specs.Sheet.{columns, sound, unsoundTo, lineValue}
+use Rattle.sizes.specs.Sizes.{refusal as refusalOfSizes}
+use Rattle.messages.specs.Messages.{said, refusal as refusalOfLength}
+use Rattle.sheet.specs.Sheet.{columns, bytes, sound, unsoundTo, lineValue}
 use Rattle.delivery.specs.declared.Round.{Round}
 
 -- The mail of a round holds what all n columns said, by the sender's number: of each its n messages, by the receiver's, of `width` values.
@@ -25,3 +26,8 @@ sent sheet round mail i j k = cond (sound sheet j) (mailed (columns sheet) (roun
 -- what column i gets: one message from each, by column number
 unfoldable pub inbox : List ℕ → Round → List ℕ → ℕ → List ℕ
 inbox sheet round mail i = rowsOf (sent sheet round mail i) (round .width) (columns sheet)
+
+-- "1: n outside 4 to 31. 2: m outside 1 to 32. 3: a column number outside 1 to n. 4: a slice .. whose length is not the one required": of what
+-- column i is to get in a slice of `len` values
+unfoldable pub refusal : List ℕ → Round → ℕ → ℕ → ℕ
+refusal sheet round i len = refusalOfLength (refusalOfSizes (columns sheet) (bytes sheet) i) (columns sheet) (round .width) len

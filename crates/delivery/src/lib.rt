@@ -6,9 +6,9 @@ ghost use Prim.Native.Nat.{ℕ, _+_, _*_, _≤_};
 ghost use lib.Dec.{eqb};
 ghost use lib.ListN.{length, drop};
 ghost use Rattle.lists.specs.Lists.{bit, listOf};
-ghost use Rattle.messages.specs.Messages.{refusal, unlessRefused, word};
+ghost use Rattle.messages.specs.Messages.{unlessRefused, word};
 ghost use Rattle.sheet.specs.Sheet.{columns, sound as soundOf, unsoundTo};
-ghost use Rattle.delivery.specs.Delivery.{mailed as mailedOf, sent as sentOf, inbox as inboxOf};
+ghost use Rattle.delivery.specs.Delivery.{mailed as mailedOf, sent as sentOf, inbox as inboxOf, refusal as refusalOf};
 ghost use Rattle.delivery.specs.Places.{place as placeOf, Lying};
 
 // A round: how many values a line has for each receiver, how many of them belong to earlier rounds, and the values of one message.
@@ -162,19 +162,29 @@ fn deliver_words(sheet: &[u8], round: Round, mail: &[u16], to: u8, inbox: &mut [
     }
 }
 
-// What column `to` + 1 gets in the round, one message from each column; 4 for an inbox of another length.
-pub fn deliver(sheet: &[u8], round: Round, mail: &[u16], to: u8, inbox: &mut [u16]) -> u8
-    ensures { λ r. ⌜ (r ≡ refusal 0 (columns (now (sheet .entry))) (round .width) (length (now (inbox .entry))))
-        × (now (inbox .exit) ≡ unlessRefused (refusal 0 (columns (now (sheet .entry))) (round .width) (length (now (inbox .entry)))) (inboxOf (now (sheet .entry)) round (now (mail .entry)) (to + 1)) (now (inbox .entry))) ⌝ }
+// The refusal of a delivery to column `own`: 1, 2, 3 for the sizes of the sheet and the receiver, 4 for an inbox of another length, or 0.
+fn refusal(sheet: &[u8], round: Round, own: u8, len: usize) -> u8
+    ensures { λ r. ⌜ r ≡ refusalOf (now (sheet .entry)) round own len ⌝ }
 {
-    let why = messages::refusal(0, sheet::columns(sheet), round.width, inbox.len());
+    let n = sheet::columns(sheet);
+    let m = sheet::bytes(sheet);
+    messages::refusal(sizes::refusal(n, m, own), n, round.width, len)
+}
+
+// What column `own` gets in the round, one message from each column. Refused with 1, 2 for the sizes of the sheet, with 3 for a receiver that is
+// no column of the wall, with 4 for an inbox of another length; then nothing is written.
+pub fn deliver(sheet: &[u8], round: Round, mail: &[u16], own: u8, inbox: &mut [u16]) -> u8
+    ensures { λ r. ⌜ (r ≡ refusalOf (now (sheet .entry)) round own (length (now (inbox .entry))))
+        × (now (inbox .exit) ≡ unlessRefused (refusalOf (now (sheet .entry)) round own (length (now (inbox .entry)))) (inboxOf (now (sheet .entry)) round (now (mail .entry)) own) (now (inbox .entry))) ⌝ }
+{
+    let why = refusal(sheet, round, own, inbox.len());
     if why != 0 {
         return why;
     }
     if round.width == 1 {
-        deliver_words(sheet, round, mail, to, inbox);
+        deliver_words(sheet, round, mail, own - 1, inbox);
         return 0;
     }
-    deliver_messages(sheet, round, mail, to, inbox);
+    deliver_messages(sheet, round, mail, own - 1, inbox);
     0
 }

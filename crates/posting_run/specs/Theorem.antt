@@ -17,7 +17,7 @@ use Rattle.agreement.specs.Posting.{posts}
 use Rattle.sheet.specs.Sheet.{columns, bytes, sound, recordOf}
 use Rattle.sheet.specs.Laws.{Accepted}
 use Rattle.wall_run.specs.declared.Entry.{Entry}
-use Rattle.wall_run.specs.Run.{gradeShown, soundEntry, entries, refusal, rowAfter}
+use Rattle.wall_run.specs.Run.{gradeShown, entryAsked, soundEntry, entries, refusal, rowAfter}
 use Rattle.wall_run.specs.Row.{accepted-run, run-done}
 use Rattle.wall_run.specs.Claim.{entryOfColumn, endsOn}
 use Rattle.wall_run.specs.Columns.{delivered, entry-is}
@@ -62,13 +62,13 @@ module _ (s : ℕ) (sheet : List ℕ) {rows : ℕ} (small : Below 256 sheet) (A 
 
     -- its entry shows what it outputs
     shown : (entryOfColumn (entries (Posting s) sheet) i .grade ≡ P .grade i) × (endsOn m (entryOfColumn (entries (Posting s) sheet) i) ≡ P .value i)
-    unfolding soundEntry gradeShown
+    unfolding soundEntry entryAsked gradeShown
     shown =
         let e = shows (Posting s) sheet small A poster i si in
         (ap (λ (e : Entry). e .grade) e ∙ outputs .1, ap (endsOn m) e ∙ ends-as (Posting s) m ended ∙ outputs .0 .1)
 
     voted : entryOfColumn (entries (Posting s) sheet) i .vote ≡ 1
-    unfolding soundEntry
+    unfolding soundEntry entryAsked
     voted =
         ap (λ (e : Entry). e .vote) (entry-is (Posting s) sheet i si) ∙ ap (λ (c : Column). c .vote) (last-is (Posting s) sheet small A poster i si)
         ∙ vote-lasts s n m i (recordOf sheet i) (delivered (Posting s) sheet i) (roundsIn (Posting s) n)

@@ -20,7 +20,10 @@ use Rattle.agreement.specs.declared.Stage.{Stage}
 use Rattle.agreement.specs.declared.Column.{Column}
 use Rattle.agreement.specs.declared.Kind.{Kind}
 use Rattle.agreement.specs.declared.Kind.the-variants.{Exchange, FirstReport, SecondReport, Votes, Proposals, King, Points, KeptPoints, Post}
+use Rattle.agreement.specs.declared.Answer.the-variants.{Done, Refused}
+use Rattle.agreement.specs.declared.Answered.{Answered}
 use Rattle.agreement.specs.Rounds.{message, hears}
+use Rattle.agreement.specs.Calls.{answered, answerOf}
 use Rattle.rounds.specs.Rounds.{width, toColumns, roundRefusal, heardIn}
 
 -- ROUNDS OF ONE VALUE
@@ -72,15 +75,15 @@ ready kind c len e =
     let a = accepted (refusal (c .n) (c .m) (c .own)) (c .n) (width (c .n) (c .m) kind) len e in
     record { sizes = a .0; full = a .1 }
 
--- what a column becomes, refused or not
+-- what a column answers that listens, refused or not
 module _ (kind : Kind) (next : Stage) (c : Column) (inbox : List ℕ) (why : ℕ) (e : why ≡ roundRefusal kind c (length inbox)) where
-  pub heard-refused : (why ≡ 0 → ⊥) → c ≡ heardIn kind next c inbox
-  unfolding heardIn
+  pub heard-refused : (why ≡ 0 → ⊥) → _≡_ {A = Answered} (record { answer = Refused why; column = c }) (heardIn kind next c inbox)
+  unfolding heardIn answered answerOf
   heard-refused h = rw (← e, ne-eqb why 0 h) refl
 
-  pub heard-done : why ≡ 0 → hears kind next c inbox ≡ heardIn kind next c inbox
-  unfolding heardIn
-  heard-done z = rw (← e, eq-eqb why 0 z) refl
+  pub heard-done : why ≡ 0 → (d : Column) → d ≡ hears kind next c inbox → _≡_ {A = Answered} (record { answer = Done; column = d }) (heardIn kind next c inbox)
+  unfolding heardIn answered answerOf
+  heard-done z d is = rw (← e, eq-eqb why 0 z, is) refl
 
 module _ (c : Column) (len : ℕ) where
   pub exchange-accepted : Ready Exchange c len → exchangeRefusal (c .n) (c .m) (c .own) len ≡ 0

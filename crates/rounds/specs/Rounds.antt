@@ -1,8 +1,6 @@
 -- The definitions of one round by its kind: how long its messages are, what is said, what is refused, and what a column becomes.
-use mathlib.Core.Bool.{cond}
 use mathlib.Core.List.{List}
 use Prim.Native.Nat.{ℕ, _*_}
-use lib.Dec.{eqb}
 use lib.ListN.{length}
 use Rattle.lists.specs.Lists.{rowsOf}
 use Rattle.sizes.specs.Sizes.{blocks, refusal as refusalOfSizes}
@@ -11,7 +9,9 @@ use Rattle.agreement.specs.declared.Stage.{Stage}
 use Rattle.agreement.specs.declared.Column.{Column}
 use Rattle.agreement.specs.declared.Kind.{Kind}
 use Rattle.agreement.specs.declared.Kind.the-variants.{Exchange, FirstReport, SecondReport, Votes, Proposals, King, Points, KeptPoints, Post}
+use Rattle.agreement.specs.declared.Answered.{Answered}
 use Rattle.agreement.specs.Rounds.{message, hears}
+use Rattle.agreement.specs.Calls.{answered}
 
 -- the values of a message in a round of the kind
 unfoldable pub width : ℕ → ℕ → Kind → ℕ
@@ -33,6 +33,6 @@ toColumns kind c = rowsOf (λ j. said (message kind c j)) (width (c .n) (c .m) k
 unfoldable pub roundRefusal : Kind → Column → ℕ → ℕ
 roundRefusal kind c len = refusal (refusalOfSizes (c .n) (c .m) (c .own)) (c .n) (width (c .n) (c .m) kind) len
 
--- what column c has become after it listened; as it came, where it is refused
-unfoldable pub heardIn : Kind → Stage → Column → List ℕ → Column
-heardIn kind next c inbox = cond (eqb (roundRefusal kind c (length inbox)) 0) (hears kind next c inbox) c
+-- what column c has become after it listened; "A refusal gives its number and the state as it came"
+unfoldable pub heardIn : Kind → Stage → Column → List ℕ → Answered
+heardIn kind next c inbox = answered (roundRefusal kind c (length inbox)) (hears kind next c inbox) c

@@ -9,6 +9,8 @@ mod speaking;
 mod spreading;
 mod words;
 
+use agreement::Answer;
+use agreement::Answered;
 use agreement::Column;
 use agreement::Kind;
 use agreement::Stage;
@@ -65,13 +67,20 @@ pub fn say(kind: Kind, column: Column, out: &mut [u16]) -> u8
     0
 }
 
-// What the column has become after it listened in a round of the kind; it goes on to the stage `next`, unless the round ends the run. As it
-// came, where the sizes or the slice are refused as in `say`.
-pub fn hear(kind: Kind, next: Stage, column: Column, inbox: &[u16]) -> Column
+// What the column has become after it listened in a round of the kind; it goes on to the stage `next`, unless the round ends the run. Refused as
+// in `say`; then the column is as it came.
+pub fn hear(kind: Kind, next: Stage, column: Column, inbox: &[u16]) -> Answered
     ensures { λ r. ⌜ r ≡ heardIn kind next column (now (inbox .entry)) ⌝ }
 {
-    if refusal(kind, column, inbox.len()) != 0 {
-        return column;
+    let refused = refusal(kind, column, inbox.len());
+    if refused != 0 {
+        return Answered {
+            answer: Answer::Refused(refused),
+            column: column,
+        };
     }
-    listening::hear(column, kind, next, inbox)
+    Answered {
+        answer: Answer::Done,
+        column: listening::hear(column, kind, next, inbox),
+    }
 }

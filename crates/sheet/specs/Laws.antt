@@ -14,8 +14,7 @@ use Rattle.lists.specs.Entries.{all-each}
 use Rattle.lists.specs.Rows.{row-fits}
 use Rattle.sizes.specs.Sizes.{faults, refusal as refusalOfSizes}
 use Rattle.sizes.specs.Laws.{InRange, accepted as accepted-sizes}
-use Rattle.messages.specs.Messages.{word}
-use Rattle.sheet.specs.Sheet.{columns, bytes, mark, unsoundTo, recordPlace, recordOf, arrays, lineValue, whole, markFits, inOrder, refusalOfMarks, refusal}
+use Rattle.sheet.specs.Sheet.{columns, bytes, mark, unsoundTo, recordPlace, recordOf, arrays, whole, markFits, inOrder, refusalOfMarks, refusal}
 
 -- WHERE THINGS STAND
 
@@ -28,12 +27,6 @@ arrays-le n m h g = omega (arith, mul-le-mul {n₁ = n} {m₁ = m} {n₂ = 255} 
 pub record-place : (n m i : ℕ) → recordPlace n m (i + 1) ≡ 2 + n + i * m
 unfolding recordPlace
 record-place n m i = ap (λ (j : ℕ). 2 + n + j * m) (omega arith)
-
-pub line-value : (line : ℕ) (sheet : List ℕ) (before i q : ℕ)
-    → lineValue line sheet before (i + 1) q ≡ word sheet (arrays (columns sheet) (bytes sheet) + 2 * ((before * columns sheet + i) * line + q))
-unfolding lineValue
-line-value line sheet before i q =
-    ap (λ (j : ℕ). word sheet (arrays (columns sheet) (bytes sheet) + 2 * ((before * columns sheet + j) * line + q))) (omega arith)
 
 -- AN ACCEPTED SHEET
 

@@ -1,7 +1,7 @@
-// A sheet of a wall, read where it lies: the sizes, the marks, where the records stand, the lines of the unsound columns, and what is refused.
+// A sheet of a wall, read where it lies: the sizes, the marks, where the records stand, and what is refused.
 ghost use mathlib.Core.Path.{_≡_};
 ghost use Prim.Native.Nat.{_+_, _*_, _<_};
-ghost use Rattle.sheet.specs.Sheet.{columns as columnsOf, bytes as bytesOf, mark as markOf, sound as soundOf, unsound as unsoundOf, unsoundTo, recordPlace, arrays as arraysOf, lineValue, whole as wholeOf, markFits, inOrder, refusalOfMarks, refusal as refusalOf};
+ghost use Rattle.sheet.specs.Sheet.{columns as columnsOf, bytes as bytesOf, mark as markOf, sound as soundOf, unsound as unsoundOf, unsoundTo, recordPlace, arrays as arraysOf, whole as wholeOf, markFits, inOrder, refusalOfMarks, refusal as refusalOf};
 ghost use Rattle.lists.specs.Lists.{bit, all};
 
 // n, the number of columns.
@@ -76,32 +76,19 @@ fn times(a: u16, b: u16) -> usize
     a as usize * b as usize
 }
 
-// How many values of lines stand before value q of the line to column `to` + 1, where `before` unsound columns have theirs before.
-fn values_before(n: u8, line: u16, before: u8, to: u8, q: u32) -> usize
-    ensures { λ r. ⌜ (r ≡ (before * n + to) * line + q) × (r < 8589934592) ⌝ }
+// How many values the lines of u unsound columns have: each has a line to each of n columns.
+fn values(n: u8, line: u16, u: u8) -> usize
+    ensures { λ r. ⌜ (r ≡ u * n * line) × (r < 4294967296) ⌝ }
 {
-    let lines = messages::place(before, n as u16, to as u16);
-    times(lines as u16, line) + q as usize
-}
-
-// Value q of what an unsound column sends column `to` + 1, where `before` unsound columns have their lines before, and a line has `line`
-// values.
-pub fn line_value(sheet: &[u8], line: u16, before: u8, to: u8, q: u32) -> u16
-    ensures { λ r. ⌜ r ≡ lineValue line (now (sheet .entry)) before (to + 1) q ⌝ }
-{
-    let n = columns(sheet);
-    let m = bytes(sheet);
-    messages::word(
-        sheet,
-        arrays(n, m) + 2 * values_before(n, line, before, to, q),
-    )
+    let lines = messages::place(u, n as u16, 0);
+    times(lines as u16, line)
 }
 
 // The length of a sheet of n columns and m bytes, u of them unsound.
 fn whole(line: u16, n: u8, m: u8, u: u8) -> usize
     ensures { λ r. ⌜ r ≡ wholeOf line n m u ⌝ }
 {
-    arrays(n, m) + 2 * values_before(n, line, u, 0, 0)
+    arrays(n, m) + 2 * values(n, line, u)
 }
 
 // Whether column i + 1 is marked 0 or 1.

@@ -15,12 +15,13 @@ use Rattle.agreement.specs.declared.Outcome.the-variants.{Nothing, Record}
 use Rattle.agreement.specs.declared.Reply.{Reply}
 use Rattle.agreement.specs.declared.Reply.the-variants.{Ended, Refused}
 use Rattle.agreement.specs.declared.Column.{Column}
-use Rattle.agreement.specs.Calls.{fresh, noColumn, speak, written, listen, outcome, gradeIn}
+use Rattle.agreement.specs.Calls.{fresh, noColumn, speak, written, listen, outcomeRefusal, outcome, gradeIn}
 use Rattle.sheet.specs.Sheet.{columns, bytes, mark, sound, recordOf, refusal as refusalOfSheet}
 use Rattle.delivery.specs.declared.Round.{Round}
 use Rattle.delivery.specs.Delivery.{inbox}
 use Rattle.wall_run.specs.declared.Entry.{Entry}
 use Rattle.wall_run.specs.declared.Outcomes.{Outcomes}
+use Rattle.wall_run.specs.declared.Told.{Told}
 
 -- THE COLUMNS, by number, in 31 places
 
@@ -102,15 +103,16 @@ unfoldable pub gradeShown : Protocol → ℕ → Reply → ℕ
 gradeShown Agreement grade reply = grade
 gradeShown (Posting s) grade reply = gradeIn grade reply
 
+-- of a sound column that came to c, by what it answers when it is asked for its outcome
+unfoldable pub entryAsked : Protocol → Column → Reply → List ℕ → Entry
+entryAsked p c reply bytes = record { mark = 0; grade = gradeShown p (c .grade) reply; vote = c .vote; has_record = hasRecord reply; bytes = bytes }
+
 unfoldable pub soundEntry : Protocol → Column → Entry
-soundEntry p c =
-    record {
-      mark = 0;
-      grade = gradeShown p (c .grade) (outcome p c .reply);
-      vote = c .vote;
-      has_record = hasRecord (outcome p c .reply);
-      bytes = outcome p c .bytes;
-    }
+soundEntry p c = entryAsked p c (outcome p c .reply) (outcome p c .bytes)
+
+-- of a column that may have come to no outcome: the refusal of a call for it, and the entry, a mark and zeros where it is refused
+unfoldable pub told : Protocol → Column → Told
+told p c = record { refusal = outcomeRefusal p c; entry = cond (eqb (outcomeRefusal p c) 0) (soundEntry p c) (markOnly 0) }
 
 -- the entry of column i, which came to c
 unfoldable pub entryOf : Protocol → List ℕ → ℕ → Column → Entry

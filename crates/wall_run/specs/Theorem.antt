@@ -22,7 +22,7 @@ use Rattle.agreement.specs.Theorem.{third-demand}
 use Rattle.sheet.specs.Sheet.{columns, bytes, sound, recordOf}
 use Rattle.sheet.specs.Laws.{Accepted}
 use Rattle.wall_run.specs.declared.Entry.{Entry}
-use Rattle.wall_run.specs.Run.{gradeShown, soundEntry, entries, refusal, rowAfter}
+use Rattle.wall_run.specs.Run.{gradeShown, entryAsked, soundEntry, entries, refusal, rowAfter}
 use Rattle.wall_run.specs.Row.{accepted-run, run-done}
 use Rattle.wall_run.specs.Claim.{entryOfColumn, endsOn, Demand}
 use Rattle.wall_run.specs.Columns.{delivered, entry-is}
@@ -60,7 +60,7 @@ module _ (sheet : List ℕ) {rows : ℕ} (small : Below 256 sheet) (A : Accepted
   module _ (i : ℕ) (si : Sound n (sound sheet) i) where
     -- the grade of its entry is that with which it leaves dispersal
     grade-is : entryOfColumn (entries Agreement sheet) i .grade ≡ leaves n m (recordOf sheet) (calls Agreement sheet) i
-    unfolding soundEntry gradeShown
+    unfolding soundEntry entryAsked gradeShown
     grade-is =
         ap (λ (e : Entry). e .grade) (entry-is Agreement sheet i si)
         ∙ ap (λ (c : Column). c .grade) (last-is Agreement sheet small A poster i si)

@@ -1,5 +1,6 @@
 // What the columns came to.
 use crate::Entry;
+use crate::Told;
 use agreement::Column;
 use agreement::Outcome;
 use agreement::Reply;
@@ -8,7 +9,7 @@ ghost use mathlib.Core.Path.{_≡_};
 ghost use Prim.Native.Nat.{_+_, _<_, _≤_};
 ghost use Rattle.sheet.specs.Sheet.{columns};
 ghost use Rattle.agreement.specs.declared.Reply.the-variants.{Ended};
-ghost use Rattle.wall_run.specs.Run.{hasRecord, markOnly, gradeShown, soundEntry, entryOf, inPlaces};
+ghost use Rattle.wall_run.specs.Run.{hasRecord, markOnly, gradeShown, entryAsked, soundEntry, told, entryOf, inPlaces};
 
 fn is_record(outcome: Outcome) -> bool
     ensures { λ r. ⌜ r ≡ hasRecord (Ended outcome) ⌝ }
@@ -52,19 +53,45 @@ fn grade_shown(protocol: Protocol, grade: u8, reply: Reply) -> u8
     }
 }
 
-// The entry of a sound column.
-pub(super) fn sound_entry(protocol: Protocol, column: Column) -> Entry
-    ensures { λ r. ⌜ r ≡ soundEntry protocol column ⌝ }
+// The entry of a sound column that was asked for its outcome, by what it answered.
+fn entry_asked(protocol: Protocol, column: Column, reply: Reply, bytes: [u8; 32]) -> Entry
+    ensures { λ r. ⌜ r ≡ entryAsked protocol column reply bytes ⌝ }
 {
-    let asked = calls::outcome(protocol, column);
-    let reply = asked.reply;
-    let bytes = asked.bytes;
     Entry {
         mark: 0,
         grade: grade_shown(protocol, column.grade, reply),
         vote: column.vote,
         has_record: has_record(reply),
         bytes: bytes,
+    }
+}
+
+// The entry of a sound column.
+fn sound_entry(protocol: Protocol, column: Column) -> Entry
+    ensures { λ r. ⌜ r ≡ soundEntry protocol column ⌝ }
+{
+    let asked = calls::outcome(protocol, column);
+    let reply = asked.reply;
+    let bytes = asked.bytes;
+    entry_asked(protocol, column, reply, bytes)
+}
+
+// The same of a column that may be refused: a mark and zeros beside the number of the refusal.
+pub(super) fn tell(protocol: Protocol, column: Column) -> Told
+    ensures { λ r. ⌜ r ≡ told protocol column ⌝ }
+{
+    let asked = calls::outcome(protocol, column);
+    let reply = asked.reply;
+    let bytes = asked.bytes;
+    match reply {
+        Reply::Ended(_) => Told {
+            refusal: 0,
+            entry: entry_asked(protocol, column, reply, bytes),
+        },
+        Reply::Refused(why) => Told {
+            refusal: why,
+            entry: mark_only(0),
+        },
     }
 }
 

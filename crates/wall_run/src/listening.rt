@@ -4,9 +4,10 @@ use agreement::Column;
 use delivery::Round;
 use sizes::Protocol;
 ghost use mathlib.Core.Path.{_≡_};
-ghost use Prim.Native.Nat.{_+_, _*_, _≤_, _<_};
+ghost use Prim.Native.Nat.{_+_, _*_, _≤_};
 ghost use lib.ListN.{length};
-ghost use Rattle.sheet.specs.Sheet.{columns};
+ghost use Rattle.sizes.specs.Laws.{InRange, Accepted};
+ghost use Rattle.sheet.specs.Sheet.{columns, bytes};
 ghost use Rattle.wall_run.specs.Run.{each, heard};
 
 // Column i + 1 listens, if it is sound.
@@ -19,13 +20,13 @@ fn hear(
     column: Column,
     inbox: &mut [u16],
 ) -> Column
-    requires { ⌜ (i < 255) × (length (now inbox) ≡ columns (now sheet) * (round .width)) ⌝ }
+    requires { ⌜ Accepted (columns (now sheet)) (bytes (now sheet)) (i + 1) × (length (now inbox) ≡ columns (now sheet) * (round .width)) ⌝ }
     ensures { λ r. ⌜ r ≡ heard protocol (now (sheet .entry)) round (now (mail .entry)) (i + 1) column ⌝ }
 {
     if !sheet::sound(sheet, i + 1) {
         return column;
     }
-    delivery::deliver(sheet, round, mail, i, inbox);
+    delivery::deliver(sheet, round, mail, i + 1, inbox);
     let answered = calls::listen(protocol, column, inbox);
     answered.column
 }
@@ -38,7 +39,7 @@ pub(super) fn listen_all(
     mail: &[u16],
     mut wall: [Column; 31],
 ) -> [Column; 31]
-    requires { ⌜ (columns (now sheet) ≤ 31) × (columns (now sheet) * (round .width) ≤ 992) ⌝ }
+    requires { ⌜ InRange (columns (now sheet)) (bytes (now sheet)) × (columns (now sheet) * (round .width) ≤ 992) ⌝ }
     ensures { λ r. ⌜ r ≡ each (columns (now (sheet .entry))) (heard protocol (now (sheet .entry)) round (now (mail .entry))) wall ⌝ }
 {
     let n = sheet::columns(sheet);

@@ -9,7 +9,8 @@ use sizes::Protocol;
 ghost use mathlib.Core.Path.{_≡_};
 ghost use Prim.Native.Nat.{_*_, _≤_};
 ghost use lib.ListN.{length};
-ghost use Rattle.sheet.specs.Sheet.{columns};
+ghost use Rattle.sizes.specs.Laws.{InRange};
+ghost use Rattle.sheet.specs.Sheet.{columns, bytes};
 ghost use Rattle.sheet.specs.Laws.{Arrays};
 ghost use Rattle.wall_run.specs.Run.{played as playedOf, ended as endedOf};
 
@@ -21,7 +22,7 @@ fn played(
     wall: [Column; 31],
     mail: &mut [u16],
 ) -> [Column; 31]
-    requires { ⌜ (columns (now sheet) ≤ 31) × (columns (now sheet) * (round .width) ≤ 992) × (length (now mail) ≡ columns (now sheet) * (columns (now sheet) * (round .width))) ⌝ }
+    requires { ⌜ InRange (columns (now sheet)) (bytes (now sheet)) × (columns (now sheet) * (round .width) ≤ 992) × (length (now mail) ≡ columns (now sheet) * (columns (now sheet) * (round .width))) ⌝ }
     ensures { λ r. ⌜ r ≡ playedOf protocol (now (sheet .entry)) round wall ⌝ }
 {
     speaking::clear(mail);

@@ -22,7 +22,7 @@ use Rattle.agreement.specs.Rounds.{kingRound, laterRound, kindOf, postingKind, 
 use Rattle.agreement.specs.Calls.{answerOf as answerTo, answered, orElse, freshRefusal, fresh, noColumn, roundOf, whenSpeaking, whenListening, whenAsked, inState, inRound, speakRefusal, speak, written, listenRefusal, listen, outcomeRefusal, ending, replyOf, shown, outcome, gradeIn}
 use Rattle.sheet.specs.Sheet.{columns, bytes, mark, sound, unsound, unsoundTo, recordPlace, recordOf as recordIn, arrays, lineValue, whole, markFits, inOrder, refusalOfMarks, refusal as refusalOfSheet}
 use Rattle.delivery.specs.Delivery.{mailed, lied, sent, inbox}
-use Rattle.wall_run.specs.Run.{columnAt, turned, each, made, start, roundAt, blanks, spoken as spoke, words, wordsOf, mail, heard as heardBy, played, after, ended, hasRecord, markOnly, gradeShown, soundEntry, entryOf, entryIn, refusal as refusalOfRun, inPlaces, settled as ran, refused, outcomes}
+use Rattle.wall_run.specs.Run.{columnAt, turned, each, made, start, roundAt, blanks, spoken as spoke, words, wordsOf, mail, heard as heardBy, played, after, ended, hasRecord, markOnly, gradeShown, entryAsked, soundEntry, entryOf, entryIn, refusal as refusalOfRun, inPlaces, settled as ran, refused, outcomes}
 use Rattle.listing.specs.Listing.{ascii, joined, digit, decimal, named, hexDigit, hex, hexAt, hexes, sizesLine, recordText, soundLine, unsoundLine, columnLine, lineAt, columnLines, refusedLine, listing, listingOf}
 use Rattle.worked.specs.Walls.{sheet, alike, apart, six, ten, firm as firmVotes, poster, camps, silence, favour}
 
@@ -147,7 +147,7 @@ pub record Worked : Type 0 where
   pub bytes-before-poster : listingOf (Posting 0) (4 ∷ 0 ∷ []) ≡ ascii "refused 2\n"
 
 pub worked : Worked
-unfolding postingValues roundsIn valuesIn lineIn beside readByte freshIn namesFit postingKind kindIn voteIn voteAfter voting recast postedBy sentByte postedByte takenRecord posted listens orElse gradeIn gradeShown count sum all listOf rowsOf inverse inverseBelow part value faults degree blocks rounds values line refusal outside readPoint readReport readBit said from refusalOfLength unlessRefused heard heardFrom heardOfAll times point valuesAt decoded found seek through under slopes answerOf polynomialOf phases bits chosen proposal settled firm word crowned exchange agreesIn agreesWith agreementAt agreements agrees firstQuorum firstReport reportAt reports reported both secondQuorum secondReport readReports grade spoken pointsIn points least often keptPoint keptAt keptPoints pointAt blockOf there coefficient isByte isBlock byteAt recordOf freshColumn stageFits byteFits flagFits pointFits numbersFit arraysFit fits withStage withBytes withProposal withAgreements withReports withGrade withVote withKept kingRound laterRound kindOf votesOne spreads message outgoing received kingSaid graded firstVote resettled outcomeOf endsOn hears answerTo answered freshRefusal fresh noColumn roundOf whenSpeaking whenListening whenAsked inState inRound speakRefusal speak written listenRefusal listen outcomeRefusal ending replyOf shown outcome columns bytes mark sound unsound unsoundTo recordPlace recordIn arrays wordAt lineValue whole markFits inOrder refusalOfMarks refusalOfSheet mailed lied sent inbox columnAt turned each made start roundAt blanks spoke words wordsOf mail heardBy played after ended hasRecord markOnly soundEntry entryOf entryIn refusalOfRun inPlaces ran refused outcomes ascii joined digit decimal named hexDigit hex hexAt hexes sizesLine recordText soundLine unsoundLine columnLine lineAt columnLines refusedLine listing listingOf
+unfolding postingValues roundsIn valuesIn lineIn beside readByte freshIn namesFit postingKind kindIn voteIn voteAfter voting recast postedBy sentByte postedByte takenRecord posted listens orElse gradeIn gradeShown count sum all listOf rowsOf inverse inverseBelow part value faults degree blocks rounds values line refusal outside readPoint readReport readBit said from refusalOfLength unlessRefused heard heardFrom heardOfAll times point valuesAt decoded found seek through under slopes answerOf polynomialOf phases bits chosen proposal settled firm word crowned exchange agreesIn agreesWith agreementAt agreements agrees firstQuorum firstReport reportAt reports reported both secondQuorum secondReport readReports grade spoken pointsIn points least often keptPoint keptAt keptPoints pointAt blockOf there coefficient isByte isBlock byteAt recordOf freshColumn stageFits byteFits flagFits pointFits numbersFit arraysFit fits withStage withBytes withProposal withAgreements withReports withGrade withVote withKept kingRound laterRound kindOf votesOne spreads message outgoing received kingSaid graded firstVote resettled outcomeOf endsOn hears answerTo answered freshRefusal fresh noColumn roundOf whenSpeaking whenListening whenAsked inState inRound speakRefusal speak written listenRefusal listen outcomeRefusal ending replyOf shown outcome columns bytes mark sound unsound unsoundTo recordPlace recordIn arrays wordAt lineValue whole markFits inOrder refusalOfMarks refusalOfSheet mailed lied sent inbox columnAt turned each made start roundAt blanks spoke words wordsOf mail heardBy played after ended hasRecord markOnly entryAsked soundEntry entryOf entryIn refusalOfRun inPlaces ran refused outcomes ascii joined digit decimal named hexDigit hex hexAt hexes sizesLine recordText soundLine unsoundLine columnLine lineAt columnLines refusedLine listing listingOf
 worked =
     record {
       sizes-of-4 = (refl, refl);

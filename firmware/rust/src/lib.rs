@@ -199,17 +199,17 @@ impl<P: Protocol> Column<P> {
     }
 }
 
-/// The rounds of an agreement of n columns.
+/// The rounds of an agreement of n columns; 0 where n is not 4 to 31.
 pub fn rounds(n: u32) -> usize {
     archive::column_rounds(n)
 }
 
-/// The values of one message in a round of an agreement.
+/// The values of one message in a round of an agreement; 0 where n is not 4 to 31, m not 1 to 32, or there is no such round.
 pub fn values(n: u32, m: u32, round: u32) -> usize {
     archive::column_values(n, m, round)
 }
 
-/// The values of one message in a round of a posting.
+/// The values of one message in a round of a posting; 0 as of an agreement.
 pub fn posting_values(n: u32, m: u32, round: u32) -> usize {
     archive::posting_values(n, m, round)
 }

@@ -42,7 +42,9 @@ answered-requires-2 c κs = search needs
 returns-2 : tie.Need-returns-2
 unfolding listen
 returns-2 c =
-    rw (c .answered2 .ensures, c .before .recast .ensures, c .before .before .hear .ensures, c .before .before .before .voting .ensures, c .before .before .before .before .kind-in .ensures, c .before .before .before .before .before .round-of .ensures, heard-is _ _ _ (sym (c .before .before .before .before .before .before .before .to-listen .ensures) ∙ c .before .before .before .before .before .before .if1 .left), c .before .before .before .before .before .before .before .to-listen .ensures) refl
+    let b = c .before .before .before in
+    let asked = b .before .before .before .before .before .to-listen .ensures in
+    rw (c .answered2 .ensures, c .before .recast .ensures, b .hear .ensures, b .before .voting .ensures, b .before .before .kind-in .ensures, b .before .before .before .round-of .ensures, heard-is _ _ _ (sym asked ∙ b .before .before .before .before .if1 .left), asked) refl
 
 pub listen-spec : {M : Type 1} → statement M
 listen-spec =

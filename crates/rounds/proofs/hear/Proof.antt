@@ -15,7 +15,7 @@ hear-requires : tie.Need-hear-requires
 hear-requires c κs = ready _ _ _ (sym (c .before .refusal .ensures) ∙ c .if1 .left)
 
 returns-2 : tie.Need-returns-2
-returns-2 c = c .hear .ensures ∙ heard-done _ _ _ _ _ (c .before .before .refusal .ensures) (c .before .if1 .left)
+returns-2 c = heard-done _ _ _ _ _ (c .before .before .refusal .ensures) (c .before .if1 .left) _ (c .hear .ensures)
 
 pub hear-spec : {M : Type 1} → statement M
 hear-spec = tie.close (tie.spec refusal-requires returns hear-requires returns-2)

@@ -1,16 +1,15 @@
 -- `answers::listen` meets its contract.
 use borrow.Author.Needs.{needs}
 use mathlib.Core.Path.{sym, ap, _∙_}
-use borrow.Author.Tests.{not-true, not-false}
 use Rattle.agreement.specs.declared.Column.{Column}
 use Rattle.agreement.specs.Calls.{listen}
 use Rattle.column_bytes.specs.Calls.{listenAnswer, listenState}
-use Rattle.column_bytes.specs.Laws.{no-state, left-by-11, fits-state}
+use Rattle.column_bytes.specs.Laws.{fits-state, state-first, left-alone}
 use Rattle.column_bytes.proofs.answers.listen.Statement.{statement}
 use Rattle.column_bytes.proofs.answers.listen.Tie as tie
 
-is-state-requires : tie.Need-is-state-requires
-is-state-requires c κs = search needs
+state-refusal-requires : tie.Need-state-refusal-requires
+state-refusal-requires c κs = search needs
 
 same-length : tie.Need-same-length
 same-length c = search needs
@@ -18,9 +17,9 @@ same-length c = search needs
 returns : tie.Need-returns
 unfolding listenAnswer listenState
 returns c =
-    let s = sym (c .before .is-state .ensures) ∙ not-true _ (c .if1 .taken) in
-    let e = no-state _ _ _ s in
-    (sym e, sym (left-by-11 _ _ _ e))
+    let bad = c .before .state-refusal .ensures in
+    let e = state-first _ _ _ bad (c .if1 .taken) _ in
+    (e, left-alone _ _ _ bad (c .if1 .taken) _ _ _ e)
 
 decode-requires : tie.Need-decode-requires
 decode-requires c κs = search needs
@@ -38,7 +37,7 @@ returns-2 : tie.Need-returns-2
 unfolding listenAnswer listenState
 returns-2 c =
     let a = c .before .before .before .before .before .before .before .before .before .before .before .before .args in
-    let s = sym (c .before .before .before .before .before .before .before .before .is-state .ensures) ∙ not-false _ (c .before .before .before .before .before .before .before .if1 .left) in
+    let s = sym (c .before .before .before .before .before .before .before .before .state-refusal .ensures) ∙ c .before .before .before .before .before .before .before .if1 .left in
     let answered = c .before .before .before .before .listen .ensures ∙ ap (λ (k : Column). listen (a .protocol) k (a .inbox .now)) (c .before .before .before .before .before .decode .ensures) in
     rw (answered, fits-state _ _ _ s) at (c .before .before .keep .ensures)
 
@@ -46,7 +45,7 @@ pub listen-spec : {M : Type 1} → statement M
 listen-spec =
     tie.close
     (tie.spec
-    is-state-requires
+    state-refusal-requires
     same-length
     returns
     decode-requires

@@ -1,48 +1,48 @@
 -- `answers::outcome` meets its contract.
 use borrow.Author.Needs.{needs}
-use mathlib.Core.Path.{sym, ap, _∙_}
+use mathlib.Core.Path.{_≡_, refl, sym, ap, _∙_}
 use Prim.Native.Nat.{ℕ}
 use native.Mathlib.Omega.{arith}
-use borrow.Author.Tests.{not-true, not-false}
 use lib.ListN.{length}
 use Rattle.messages.specs.Messages.{refusal}
 use Rattle.messages.specs.Laws.{accepted, if-refused, if-done}
+use Rattle.agreement.specs.declared.Column.{Column}
 use Rattle.agreement.specs.Calls.{outcomeRefusal}
-use Rattle.wall_run.specs.Run.{soundEntry}
+use Rattle.wall_run.specs.declared.Told.{Told}
+use Rattle.wall_run.specs.Run.{soundEntry, told}
+use Rattle.state_bytes.specs.Layout.{decode}
 use Rattle.column_bytes.specs.Calls.{entryBytes, outcomeAnswer, outcomeOut}
-use Rattle.column_bytes.specs.Laws.{of-state, no-state-first, left-by-11, entry-whole}
+use Rattle.column_bytes.specs.Laws.{of-state, state-before, left-alone, entry-whole}
 use Rattle.column_bytes.proofs.answers.outcome.Statement.{statement}
 use Rattle.column_bytes.proofs.answers.outcome.Tie as tie
 
-is-state-requires : tie.Need-is-state-requires
-is-state-requires c κs = search needs
+state-refusal-requires : tie.Need-state-refusal-requires
+state-refusal-requires c κs = search needs
 
 returns : tie.Need-returns
 unfolding outcomeAnswer outcomeOut
 returns c =
-    let e = no-state-first _ _ _ _ _ _ (sym (c .before .is-state .ensures) ∙ not-true _ (c .if1 .taken)) in
-    (sym e, sym (left-by-11 _ _ _ e))
+    let bad = c .before .state-refusal .ensures in
+    let e = state-before _ _ _ bad (c .if1 .taken) _ _ _ _ in
+    (e, left-alone _ _ _ bad (c .if1 .taken) _ _ _ e)
 
 decode-requires : tie.Need-decode-requires
 decode-requires c κs = search needs
 
-to-ask-requires : tie.Need-to-ask-requires
-to-ask-requires c κs = search needs
+sound-entry-requires : tie.Need-sound-entry-requires
+sound-entry-requires c κs = search needs
 
 refusal-requires : tie.Need-refusal-requires
 refusal-requires c κs = search needs
 
 returns-2 : tie.Need-returns-2
-unfolding outcomeAnswer outcomeOut
+unfolding outcomeAnswer outcomeOut told
 returns-2 c =
     let a = c .before .before .before .before .before .before .before .before .args in
-    let s = sym (c .before .before .before .before .before .is-state .ensures) ∙ not-false _ (c .before .before .before .before .if1 .left) in
-    let asked = c .before .before .to-ask .ensures ∙ ap (outcomeRefusal (a .protocol)) (c .before .before .before .decode .ensures) ∙ sym (of-state _ _ _ s) in
+    let s = sym (c .before .before .before .before .before .state-refusal .ensures) ∙ c .before .before .before .before .if1 .left in
+    let asked = ap (λ (t : Told). t .refusal) (c .before .before .sound-entry .ensures) ∙ ap (outcomeRefusal (a .protocol)) (c .before .before .before .decode .ensures) ∙ sym (of-state _ _ _ s) in
     let e = c .before .refusal .ensures ∙ ap (λ (q : ℕ). refusal q 1 36 (length (a .out .now))) asked in
     (e, sym (if-refused _ _ _ (λ z. c .if2 .taken (e ∙ z))))
-
-sound-entry-requires : tie.Need-sound-entry-requires
-sound-entry-requires c κs = search needs
 
 put-entry-requires : tie.Need-put-entry-requires
 put-entry-requires c κs = omega (arith, accepted _ _ _ _ (sym (c .before .before .before .refusal .ensures) ∙ c .before .before .if2 .left) .1)
@@ -51,27 +51,31 @@ same-length : tie.Need-same-length
 same-length c = search needs
 
 returns-3 : tie.Need-returns-3
-unfolding outcomeAnswer outcomeOut
+unfolding outcomeAnswer outcomeOut told
 returns-3 c =
-    let a = c .before .before .before .before .before .before .before .before .before .before .before .before .before .args in
-    let s = sym (c .before .before .before .before .before .before .before .before .before .before .is-state .ensures) ∙ not-false _ (c .before .before .before .before .before .before .before .before .before .if1 .left) in
-    let asked = c .before .before .before .before .before .before .before .to-ask .ensures ∙ ap (outcomeRefusal (a .protocol)) (c .before .before .before .before .before .before .before .before .decode .ensures) ∙ sym (of-state _ _ _ s) in
-    let e = c .before .before .before .before .before .before .refusal .ensures ∙ ap (λ (q : ℕ). refusal q 1 36 (length (a .out .now))) asked in
-    let z = sym e ∙ c .before .before .before .before .before .if2 .left in
-    let entry = c .before .before .before .before .sound-entry .ensures ∙ ap (soundEntry (a .protocol)) (c .before .before .before .before .before .before .before .before .decode .ensures) in
+    let b = c .before .before .before .before .before in
+    let a = b .before .before .before .before .before .before .before .before .args in
+    let s = sym (b .before .before .before .before .before .state-refusal .ensures) ∙ b .before .before .before .before .if1 .left in
+    let tells = b .before .before .sound-entry .ensures in
+    let column = b .before .before .before .decode .ensures in
+    let asked = ap (λ (t : Told). t .refusal) tells ∙ ap (outcomeRefusal (a .protocol)) column ∙ sym (of-state _ _ _ s) in
+    let e = b .before .refusal .ensures ∙ ap (λ (q : ℕ). refusal q 1 36 (length (a .out .now))) asked in
+    let z = sym e ∙ b .if2 .left in
+    let ended : outcomeRefusal (a .protocol) (decode (a .state .now)) ≡ 0 = sym (of-state _ _ _ s) ∙ accepted _ _ _ _ z .0 in
+    let is : told (a .protocol) (decode (a .state .now)) .entry ≡ soundEntry (a .protocol) (decode (a .state .now)) = rw ended refl in
+    let entry = ap (λ (t : Told). t .entry) tells ∙ ap (λ (k : Column). told (a .protocol) k .entry) column ∙ is in
     (sym z, c .before .before .put-entry .ensures ∙ entry-whole _ (a .out .now) (accepted _ _ _ _ z .1) ∙ ap entryBytes entry ∙ sym (if-done _ _ _ z))
 
 pub outcome-spec : {M : Type 1} → statement M
 outcome-spec =
     tie.close
     (tie.spec
-    is-state-requires
+    state-refusal-requires
     returns
     decode-requires
-    to-ask-requires
+    sound-entry-requires
     refusal-requires
     returns-2
-    sound-entry-requires
     put-entry-requires
     same-length
     returns-3)

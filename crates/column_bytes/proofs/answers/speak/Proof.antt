@@ -1,16 +1,15 @@
 -- `answers::speak` meets its contract.
 use borrow.Author.Needs.{needs}
 use mathlib.Core.Path.{refl, sym, ap, _∙_}
-use borrow.Author.Tests.{not-true, not-false}
 use Rattle.agreement.specs.declared.Column.{Column}
 use Rattle.agreement.specs.Calls.{speak, written}
 use Rattle.column_bytes.specs.Calls.{speakAnswer, speakState, speakOut}
-use Rattle.column_bytes.specs.Laws.{no-state, left-by-11, fits-state}
+use Rattle.column_bytes.specs.Laws.{is-state, fits-state, no-state, state-first, left-alone}
 use Rattle.column_bytes.proofs.answers.speak.Statement.{statement}
 use Rattle.column_bytes.proofs.answers.speak.Tie as tie
 
-is-state-requires : tie.Need-is-state-requires
-is-state-requires c κs = search needs
+state-refusal-requires : tie.Need-state-refusal-requires
+state-refusal-requires c κs = search needs
 
 same-length : tie.Need-same-length
 same-length c = search needs
@@ -18,9 +17,9 @@ same-length c = search needs
 returns : tie.Need-returns
 unfolding speakAnswer speakState speakOut
 returns c =
-    let s = sym (c .before .is-state .ensures) ∙ not-true _ (c .if1 .taken) in
-    let e = no-state _ _ _ s in
-    (sym e, sym (left-by-11 _ _ _ e), rw s refl)
+    let bad = c .before .state-refusal .ensures in
+    let e = state-first _ _ _ bad (c .if1 .taken) _ in
+    (e, left-alone _ _ _ bad (c .if1 .taken) _ _ _ e, rw (no-state _ _ _ bad (c .if1 .taken)) refl)
 
 decode-requires : tie.Need-decode-requires
 decode-requires c κs = search needs
@@ -41,17 +40,17 @@ returns-2 : tie.Need-returns-2
 unfolding speakAnswer speakState speakOut
 returns-2 c =
     let a = c .before .before .before .before .before .before .before .before .before .before .before .before .before .before .before .args in
-    let s = sym (c .before .before .before .before .before .before .before .before .before .before .before .is-state .ensures) ∙ not-false _ (c .before .before .before .before .before .before .before .before .before .before .if1 .left) in
+    let s = sym (c .before .before .before .before .before .before .before .before .before .before .before .state-refusal .ensures) ∙ c .before .before .before .before .before .before .before .before .before .before .if1 .left in
     let column = c .before .before .before .before .before .before .before .before .decode .ensures in
     let answered = c .before .before .before .before .before .before .speak .ensures .0 ∙ ap (λ (k : Column). speak (a .protocol) k (a .out .now)) column in
     let (answer, state) = rw (answered, fits-state _ _ _ s) at (c .before .before .keep .ensures) in
-    (answer, state, rw s (c .before .before .before .before .before .before .speak .ensures .1 ∙ ap (λ (k : Column). written (a .protocol) k (a .out .now)) column))
+    (answer, state, rw (is-state _ _ s) (c .before .before .before .before .before .before .speak .ensures .1 ∙ ap (λ (k : Column). written (a .protocol) k (a .out .now)) column))
 
 pub speak-spec : {M : Type 1} → statement M
 speak-spec =
     tie.close
     (tie.spec
-    is-state-requires
+    state-refusal-requires
     same-length
     returns
     decode-requires

@@ -8,15 +8,12 @@ use Rattle.wall_run.proofs.entries.sound_entry.Tie as tie
 outcome-requires : tie.Need-outcome-requires
 outcome-requires c κs = search needs
 
-grade-shown-requires : tie.Need-grade-shown-requires
-grade-shown-requires c κs = search needs
-
-has-record-requires : tie.Need-has-record-requires
-has-record-requires c κs = search needs
+entry-asked-requires : tie.Need-entry-asked-requires
+entry-asked-requires c κs = search needs
 
 returns : tie.Need-returns
 unfolding soundEntry
-returns c = rw (c .has-record .ensures, c .before .grade-shown .ensures, c .before .before .before .outcome .ensures) refl
+returns c = rw (c .entry-asked .ensures, c .before .before .outcome .ensures) refl
 
 pub sound-entry-spec : {M : Type 1} → statement M
-sound-entry-spec = tie.close (tie.spec outcome-requires grade-shown-requires has-record-requires returns)
+sound-entry-spec = tie.close (tie.spec outcome-requires entry-asked-requires returns)

@@ -5,16 +5,16 @@ use borrow.Author.Tests.{not-true, not-false}
 use Rattle.wall_run.specs.Run.{heard}
 use mathlib.Core.List.{List}
 use Prim.Native.Nat.{ℕ}
-use lib.ListN.{length}
-use Rattle.messages.specs.Laws.{not-refused, if-done}
+use native.Mathlib.Omega.{arith}
+use Rattle.messages.specs.Laws.{if-done}
 use Rattle.agreement.specs.declared.Answered.{Answered}
 use Rattle.agreement.specs.Calls.{listen}
-use Rattle.sheet.specs.Sheet.{columns}
+use Rattle.delivery.specs.Refusals.{delivers}
 use Rattle.wall_run.proofs.listening.hear.Statement.{statement}
 use Rattle.wall_run.proofs.listening.hear.Tie as tie
 
 add-sound : tie.Need-add-sound
-add-sound c = search needs
+add-sound c = let p = c .before .before .before .pre .0 in omega (arith, p .number-high, p .range .columns-high)
 
 sound-requires : tie.Need-sound-requires
 sound-requires c κs = search needs
@@ -22,6 +22,9 @@ sound-requires c κs = search needs
 returns : tie.Need-returns
 unfolding heard
 returns c = rw (sym (c .before .sound .ensures) ∙ not-true _ (c .if1 .taken)) refl
+
+add-deliver : tie.Need-add-deliver
+add-deliver c = let p = c .before .before .before .before .before .pre .0 in omega (arith, p .number-high, p .range .columns-high)
 
 deliver-requires : tie.Need-deliver-requires
 deliver-requires c κs = search needs
@@ -35,8 +38,9 @@ same-length c = search needs
 returns-2 : tie.Need-returns-2
 unfolding heard
 returns-2 c =
-    let a = c .before .before .before .before .before .before .before .before .before .before .before .before .args in
-    let got = c .before .before .before .before .before .deliver .ensures .1 ∙ if-done _ _ _ (not-refused 0 (columns (a .sheet .now)) (a .round .width) (length (a .inbox .now)) refl (c .before .before .before .before .before .before .before .before .before .before .before .before .pre .1)) in
+    let start = c .before .before .before .before .before .before .before .before .before .before .before .before in
+    let a = start .args in
+    let got = c .before .before .before .before .before .deliver .ensures .1 ∙ if-done _ _ _ (delivers _ _ _ _ (start .pre .0) (start .pre .1)) in
     rw (sym (c .before .before .before .before .before .before .before .before .sound .ensures) ∙ not-false _ (c .before .before .before .before .before .before .before .if1 .left)) (ap (λ (r : Answered). r .column) (c .before .listen .ensures) ∙ ap (λ (l : List ℕ). listen (a .protocol) (a .column) l .column) got)
 
 pub hear-spec : {M : Type 1} → statement M
@@ -46,6 +50,7 @@ hear-spec =
     add-sound
     sound-requires
     returns
+    add-deliver
     deliver-requires
     listen-requires
     same-length

@@ -25,16 +25,16 @@ of-one-requires : tie.Need-of-one-requires Inv-loop μ-loop
 of-one-requires c κs = tt
 
 loop-holds : tie.Need-loop-holds Inv-loop μ-loop
-loop-holds c = (filled-none _ _ _ (omega (arith, c .before .before .before .before .pre .0, c .before .before .before .before .good .1 .1 .1 .1 .0 .1 .0 .1)), length-replicate {A = ℕ} 992 65535)
+loop-holds c = (filled-none _ _ _ (omega (arith, c .before .before .before .before .pre .0 .columns-high, c .before .before .before .before .good .1 .1 .1 .1 .0 .1 .0 .1)), length-replicate {A = ℕ} 992 65535)
 
 cast-at : tie.Need-cast-at Inv-loop μ-loop
 cast-at c = omega arith
 
 mul-column : tie.Need-mul-column Inv-loop μ-loop
-mul-column c = omega (arith, c .before .before .before .columns .ensures, c .before .before .before .before .before .before .pre .0)
+mul-column c = omega (arith, c .before .before .before .columns .ensures, c .before .before .before .before .before .before .pre .0 .columns-high)
 
 array-copy-out-column : tie.Need-array-copy-out-column Inv-loop μ-loop
-array-copy-out-column c = omega (arith, c .before .before .before .columns .ensures, c .before .before .before .before .before .before .pre .0)
+array-copy-out-column c = omega (arith, c .before .before .before .columns .ensures, c .before .before .before .before .before .before .pre .0 .columns-high)
 
 array-borrow-prefix-inbox : tie.Need-array-borrow-prefix-inbox Inv-loop μ-loop
 array-borrow-prefix-inbox c = omega (arith, c .before .before .before .of-one .ensures, c .before .before .before .before .before .before .before .pre .1)
@@ -43,13 +43,15 @@ slice-aggregate-hear : tie.Need-slice-aggregate-hear Inv-loop μ-loop
 slice-aggregate-hear c = sym (length-take-le _ _ (omega (arith, c .before .before .before .before .of-one .ensures, c .before .before .before .before .before .before .before .before .pre .1, c .before .before .before .loop .inv .1)))
 
 hear-requires : tie.Need-hear-requires Inv-loop μ-loop
-hear-requires c κs = (omega (arith, c .before .before .before .before .before .columns .ensures, c .before .before .before .before .before .before .before .before .pre .0), length-take-le _ _ (omega (arith, c .before .before .before .before .of-one .ensures, c .before .before .before .before .before .before .before .before .pre .1, c .before .before .before .loop .inv .1)) ∙ c .before .before .before .before .of-one .ensures)
+hear-requires c κs =
+    let pre = c .before .before .before .before .before .before .before .before .pre in
+    (record { range = pre .0; number-low = omega arith; number-high = omega (arith, c .before .before .before .before .before .columns .ensures) }, length-take-le _ _ (omega (arith, c .before .before .before .before .of-one .ensures, c .before .before .before .before .before .before .before .before .pre .1, c .before .before .before .loop .inv .1)) ∙ c .before .before .before .before .of-one .ensures)
 
 mul-wall : tie.Need-mul-wall Inv-loop μ-loop
-mul-wall c = omega (arith, c .before .before .before .before .before .before .before .columns .ensures, c .before .before .before .before .before .before .before .before .before .before .pre .0)
+mul-wall c = omega (arith, c .before .before .before .before .before .before .before .columns .ensures, c .before .before .before .before .before .before .before .before .before .before .pre .0 .columns-high)
 
 array-set-from-wall : tie.Need-array-set-from-wall Inv-loop μ-loop
-array-set-from-wall c = omega (arith, c .before .before .before .before .before .before .before .columns .ensures, c .before .before .before .before .before .before .before .before .before .before .pre .0)
+array-set-from-wall c = omega (arith, c .before .before .before .before .before .before .before .columns .ensures, c .before .before .before .before .before .before .before .before .before .before .pre .0 .columns-high)
 
 add-i : tie.Need-add-i Inv-loop μ-loop
 add-i c = omega arith

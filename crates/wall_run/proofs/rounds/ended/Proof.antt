@@ -84,7 +84,7 @@ played-requires c κs =
     let n = columns (c .before .before .before .before .before .before .before .before .before .before .before .args .sheet .now) in
     let len : c .before .of-many .result ≡ n * (n * c .before .before .values-in .result) = c .before .of-many .ensures ∙ ap (λ (j : ℕ). j * (n * c .before .before .values-in .result)) (c .before .before .before .before .before .before .before .before .before .columns .ensures) in
     let room = mail-le n (c .before .before .values-in .result) (pre .range .columns-high) one in
-    (pre .range .columns-high, one, length-take-le _ _ (omega (arith, c .before .before .before .before .loop .inv .room)) ∙ len)
+    (pre .range, one, length-take-le _ _ (omega (arith, c .before .before .before .before .loop .inv .room)) ∙ len)
 
 add-offset : tie.Need-add-offset Inv-loop μ-loop
 add-offset c =

@@ -17,7 +17,7 @@ clear-requires c κs = search needs
 speak-all-requires : tie.Need-speak-all-requires
 speak-all-requires c κs =
     let p = c .before .before .before .before .before .before .before .pre in
-    record { few = p .0; narrow = p .1; blank-all = c .before .before .before .clear .ensures ∙ ap (λ (k : ℕ). replicate k blank) (p .2) }
+    record { few = p .0 .columns-high; narrow = p .1; blank-all = c .before .before .before .clear .ensures ∙ ap (λ (k : ℕ). replicate k blank) (p .2) }
 
 listen-all-requires : tie.Need-listen-all-requires
 listen-all-requires c κs =

@@ -21,6 +21,10 @@ unfoldable pub value : List ℕ → ℕ → ℕ
 value [] x = 0
 value (c ∷ cs) x = add c (multiply x (value cs x))
 
+-- place i of a polynomial's codeword is its value at the point i + 1
+unfoldable pub wordAt : List ℕ → ℕ → ℕ
+wordAt cs i = value cs (i + 1)
+
 -- two polynomials have one value at the point x
 abbrev pub meet : List ℕ → List ℕ → ℕ → Bool
 meet f g x = eqb (value f x) (value g x)

@@ -40,7 +40,7 @@ fn column(n: u8, m: u8, own: u8, bytes: &[u8]) -> Column
         grade: 0,
         vote: 0,
         firm: false,
-        kept: [65535u16; 32],
+        kept: [Field::BLANK; 32],
     }
 }
 

@@ -1,55 +1,25 @@
--- The laws of codewords: a block's values at the points 1 to 32, byte after byte, the last one first.
+-- The laws of codewords: the values of a block with the sizes at hand, rows of codewords, and what they have across.
 use mathlib.Core.Path.{_≡_, refl, sym, ap, _∙_}
-use mathlib.Core.Bool.{cond}
+use mathlib.Core.Bool.{Bool, true, false, cond, _&&_}
 use mathlib.Core.List.{List, [], _∷_, _++_}
-use Prim.Native.Nat.{ℕ, zero, suc, _+_, _-_, _*_, _≤_, _<_}
-use native.Mathlib.Nat.{mod-lt, add-zero, add-suc, suc-add}
+use Prim.Native.Nat.{ℕ, suc, _+_, _-_, _*_, _≤_, _<_}
 use native.Mathlib.Decide.{decLt}
 use native.Mathlib.Omega.{arith}
-use borrow.Author.Tests.{lt-ltb, le-ltb, le-leb, lt-leb, eq-eqb, ne-eqb}
-use lib.Dec.{ltb, lit<}
+use borrow.Author.Tests.{lt-ltb, le-ltb, le-leb, lt-leb, ne-eqb}
+use lib.Dec.{T, eqb, ltb, leb, eqb→eq, leb→le}
 use lib.ListN.{length, drop, getD, replicate}
-use Rattle.lists.specs.Lists.{Below, listOf, rowsOf}
-use Rattle.lists.specs.Entries.{length-listOf, getD-listOf, listOf-getD, listOf-same, below-listOf}
+use Rattle.lists.specs.Lists.{listOf, rowsOf}
+use Rattle.lists.specs.Tests.{passes}
+use Rattle.lists.specs.Entries.{getD-listOf, listOf-same}
 use Rattle.lists.specs.Rows.{length-rowsOf, rowsOf-same, inRow-rowsOf}
-use Rattle.field.specs.Field.{add, multiply, blank}
-use Rattle.block.specs.Block.{part, value}
-use Rattle.sizes.specs.Sizes.{degree, blocks}
-use Rattle.messages.specs.Messages.{said, written}
-use Rattle.messages.specs.Laws.{written-fits}
-use Rattle.codeword.specs.Codeword.{point, values, codewordAt, codewords, codewordsIn, across, writtenAcross}
+use Rattle.field.specs.Field.{blank}
+use Rattle.block.specs.Block.{part, value, wordAt}
+use Rattle.sizes.specs.Sizes.{degree, blocks, refusal as refusalOfSizes}
+use Rattle.sizes.specs.Laws.{first-column}
+use Rattle.messages.specs.Messages.{said, laid, written, refusal, unlessRefused}
+use Rattle.messages.specs.Laws.{written-fits, if-done}
+use Rattle.codeword.specs.Codeword.{point, values, valuesFor, codewordAt, codewords, codewordsRefusal, across, acrossRefusal, writtenAcross}
 use Rattle.codeword.specs.Apart.{said-values, said-past}
-
--- A VALUE, the last coefficient first
-
--- the value of a polynomial at x with these coefficients in front, where the rest has the value `rest`
-unfoldable pub behind : List ℕ → ℕ → ℕ → ℕ
-behind [] x rest = rest
-behind (c ∷ cs) x rest = add c (multiply x (behind cs x rest))
-
-pub behind-none : (bytes : List ℕ) (from count x rest : ℕ) → count ≡ 0 → rest ≡ behind (part bytes from count) x rest
-unfolding part behind
-behind-none bytes from count x rest e = rw e refl
-
-behind-last : (bytes : List ℕ) (from count x rest : ℕ)
-    → behind (part bytes from count) x (add (getD bytes (from + count) 0) (multiply x rest)) ≡ behind (part bytes from (suc count)) x rest
-unfolding part behind
-behind-last bytes from zero x rest = rw add-zero refl
-behind-last bytes from (suc count) x rest =
-    rw (add-suc, ← suc-add) (ap (λ (v : ℕ). add (getD bytes from 0) (multiply x v)) (behind-last bytes (suc from) count x rest))
-
-pub behind-more : (bytes : List ℕ) (from count x rest : ℕ) → (count ≡ 0 → ⊥)
-    → behind (part bytes from (count - 1)) x (add (getD bytes (from + (count - 1)) 0) (multiply x rest)) ≡ behind (part bytes from count) x rest
-behind-more bytes from zero x rest z = absurd (z refl)
-behind-more bytes from (suc count) x rest z =
-    let less : suc count - 1 ≡ count = omega arith in
-    rw less (behind-last bytes from count x rest)
-
--- nothing stands behind a whole polynomial
-pub behind-zero : (cs : List ℕ) (x : ℕ) → behind cs x 0 ≡ value cs x
-unfolding behind value
-behind-zero [] x = refl
-behind-zero (c ∷ cs) x = ap (λ (v : ℕ). add c (multiply x v)) (behind-zero cs x)
 
 -- A VALUE, with the sizes at hand
 
@@ -64,59 +34,35 @@ value-in n m b size bytes x k e f = rw (e, f) (go (decLt k (blocks n m)))
     go (yes l) = rw (lt-ltb k (blocks n m) l) (sym (said-values n m bytes x k l))
     go (no l) = rw (le-ltb k (blocks n m) (omega arith)) (sym (said-past n m bytes x k (omega arith)))
 
--- A CODEWORD
+-- four bytes, one by one
+pub four-bytes : (bytes : List ℕ) (from a b c d : ℕ) → a ≡ getD bytes from 0 → b ≡ getD bytes (from + 1) 0 → c ≡ getD bytes (from + 2) 0
+    → d ≡ getD bytes (from + 3) 0 → _≡_ {A = List ℕ} (a ∷ b ∷ c ∷ d ∷ []) (part bytes from 4)
+unfolding part
+four-bytes bytes from a b c d ea eb ec ed =
+    let one : from + 1 ≡ suc from = omega arith in
+    let two : from + 2 ≡ suc (suc from) = omega arith in
+    let three : from + 3 ≡ suc (suc (suc from)) = omega arith in
+    rw (ea, eb, ec, ed, one, two, three) refl
 
--- place i of a polynomial's codeword
-unfoldable pub wordAt : List ℕ → ℕ → ℕ
-wordAt cs i = value cs (i + 1)
+-- a call for the values at a point
+module _ (n m i : ℕ) (bytes : List ℕ) (r : ℕ) (e : r ≡ refusalOfSizes n m i) where
+  pub values-refused : (r ≡ 0 → ⊥) → record { refusal = r; values = replicate 32 blank } ≡ valuesFor n m bytes i
+  unfolding valuesFor
+  values-refused h = rw (← e, ne-eqb r 0 h) refl
 
--- with one byte more in front of the polynomial
-unfoldable pub longerAt : ℕ → List ℕ → ℕ → ℕ
-longerAt byte rest i = add byte (multiply (i + 1) (getD rest i 0))
+  pub values-done : (all : List ℕ) → r ≡ 0 → all ≡ laid 32 (values n m bytes i) → record { refusal = 0; values = all } ≡ valuesFor n m bytes i
+  unfolding valuesFor
+  values-done all z f = rw (← e, z, f) refl
 
--- with the values of the rest given
-unfoldable pub beforeAt : List ℕ → List ℕ → ℕ → ℕ
-beforeAt cs rest i = behind cs (i + 1) (getD rest i 0)
-
--- values at the points 1 to 32 as the code holds them
-pub record Word (l : List ℕ) : Type 0 where
-  pub size : length l ≡ 32
-  pub small : Below 257 l
-
-pub word-longer : (byte : ℕ) (rest : List ℕ) → Word (listOf (longerAt byte rest) 32)
-unfolding longerAt
-word-longer byte rest =
-    record {
-      size = length-listOf (longerAt byte rest) 32;
-      small = below-listOf 257 (longerAt byte rest) 32 (lit< tt) (λ i. mod-lt (byte + multiply (i + 1) (getD rest i 0)) (lit< tt));
-    }
-
-pub word-zeros : Word (replicate 32 0)
-unfolding listOf
-word-zeros = record { size = refl; small = below-listOf 257 (λ _. 0) 32 (lit< tt) (λ _. lit< tt) }
+-- what it answers where it is not refused
+pub values-there : (n m i : ℕ) (bytes : List ℕ) → refusalOfSizes n m i ≡ 0 → valuesFor n m bytes i .values ≡ laid 32 (values n m bytes i)
+unfolding valuesFor
+values-there n m i bytes e = rw e refl
 
 -- an array of one value
 copies : (v : ℕ) → replicate 32 v ≡ listOf (λ _. v) 32
 unfolding listOf
 copies v = refl
-
--- no byte in front, and one
-pub before-none : (bytes : List ℕ) (from count : ℕ) (rest : List ℕ) → length rest ≡ 32 → count ≡ 0 → rest ≡ listOf (beforeAt (part bytes from count) rest) 32
-unfolding part behind beforeAt
-before-none bytes from count rest h e = rw e (sym (listOf-getD rest 32 0 h))
-
-pub before-more : (bytes : List ℕ) (from count byte : ℕ) (rest next : List ℕ) → (count ≡ 0 → ⊥) → byte ≡ getD bytes (from + (count - 1)) 0
-    → next ≡ listOf (longerAt byte rest) 32 → listOf (beforeAt (part bytes from (count - 1)) next) 32 ≡ listOf (beforeAt (part bytes from count) rest) 32
-unfolding beforeAt longerAt
-before-more bytes from count byte rest next z e f =
-    rw (f, e) (listOf-same (beforeAt (part bytes from (count - 1)) (listOf (longerAt (getD bytes (from + (count - 1)) 0) rest) 32)) (beforeAt (part bytes from count) rest) 32 (λ i h.
-    rw (getD-listOf (longerAt (getD bytes (from + (count - 1)) 0) rest) 32 i 0 h) (behind-more bytes from count (i + 1) (getD rest i 0) z)))
-
--- a whole polynomial: nothing is behind it
-pub before-zeros : (cs : List ℕ) → listOf (beforeAt cs (replicate 32 0)) 32 ≡ listOf (wordAt cs) 32
-unfolding beforeAt wordAt
-before-zeros cs =
-    rw (copies 0) (listOf-same (beforeAt cs (listOf (λ _. 0) 32)) (wordAt cs) 32 (λ i h. rw (getD-listOf {A = ℕ} (λ _. 0) 32 i 0 h) (behind-zero cs (i + 1))))
 
 -- THE CODEWORDS OF A RECORD, with the sizes at hand
 
@@ -149,14 +95,12 @@ unfolding codewords codewordAt rowAt
 rows-are n m b size bytes e f =
     rowsOf-same (rowAt b size bytes) (codewordAt n m bytes) 32 32 (λ row i _ _ _. value-in n m b size bytes (i + 1) (row - 1) e f)
 
-module _ (n m : ℕ) (bytes before : List ℕ) where
-  pub codewords-in : length before ≡ 1024 → codewordsIn n m bytes before ≡ codewords n m bytes
-  unfolding codewordsIn
-  codewords-in h = simp (eq-eqb (length before) 1024 h)
-
-  pub codewords-not : (length before ≡ 1024 → ⊥) → before ≡ codewordsIn n m bytes before
-  unfolding codewordsIn
-  codewords-not h = simp (ne-eqb (length before) 1024 h)
+-- where the sizes and the length fit, they were written
+pub codewords-in : (n m number : ℕ) (bytes before : List ℕ) → refusalOfSizes n m number ≡ 0 → length before ≡ 1024
+    → unlessRefused (codewordsRefusal n m (length before)) (codewords n m bytes) before ≡ codewords n m bytes
+unfolding refusal
+codewords-in n m number bytes before r h =
+    if-done (codewordsRefusal n m (length before)) (codewords n m bytes) before (rw (first-column n m number r, h) refl)
 
 -- ACROSS THEM
 
@@ -174,19 +118,38 @@ pub length-codewords : (n m : ℕ) (bytes : List ℕ) → length (codewords n m 
 unfolding codewords
 length-codewords n m bytes = length-rowsOf (codewordAt n m bytes) 32 32
 
-module _ (b : ℕ) (words : List ℕ) (i : ℕ) (part : List ℕ) where
-  pub across-written : b ≤ length part → i < 32 → 32 * b ≤ length words → writtenAcross b words i part ≡ listOf (across words i) b ++ drop b part
-  unfolding writtenAcross
-  across-written h l u = simp (le-leb b (length part) h, lt-ltb i 32 l, le-leb (32 * b) (length words) u)
+module _ (n b i words room : ℕ) where
+  pub across-refused : (refusalOfSizes n 1 i ≡ 0 → ⊥) → refusalOfSizes n 1 i ≡ acrossRefusal n b i words room
+  unfolding acrossRefusal
+  across-refused h = simp (ne-eqb (refusalOfSizes n 1 i) 0 h)
 
-  pub across-no-room : length part < b → part ≡ writtenAcross b words i part
-  unfolding writtenAcross
-  across-no-room h = simp (lt-leb b (length part) h)
+  pub across-few : refusalOfSizes n 1 i ≡ 0 → words < 32 * b → 4 ≡ acrossRefusal n b i words room
+  unfolding acrossRefusal
+  across-few r h = simp (r, lt-leb (32 * b) words h)
 
-  pub across-no-place : b ≤ length part → 32 ≤ i → part ≡ writtenAcross b words i part
-  unfolding writtenAcross
-  across-no-place h l = simp (le-leb b (length part) h, le-ltb i 32 l)
+  pub across-no-room : refusalOfSizes n 1 i ≡ 0 → 32 * b ≤ words → room < b → 4 ≡ acrossRefusal n b i words room
+  unfolding acrossRefusal
+  across-no-room r h l = simp (r, le-leb (32 * b) words h, lt-leb b room l)
 
-  pub across-no-words : b ≤ length part → i < 32 → length words < 32 * b → part ≡ writtenAcross b words i part
-  unfolding writtenAcross
-  across-no-words h l u = simp (le-leb b (length part) h, lt-ltb i 32 l, lt-leb (32 * b) (length words) u)
+  pub across-accepted : refusalOfSizes n 1 i ≡ 0 → 32 * b ≤ words → b ≤ room → acrossRefusal n b i words room ≡ 0
+  unfolding acrossRefusal
+  across-accepted r h l = simp (r, le-leb (32 * b) words h, le-leb b room l)
+
+-- where nothing is refused, all of it fits
+pub across-fits : (n b i words room : ℕ) → acrossRefusal n b i words room ≡ 0 → (refusalOfSizes n 1 i ≡ 0) × (32 * b ≤ words) × (b ≤ room)
+unfolding acrossRefusal
+across-fits n b i words room = go (eqb (refusalOfSizes n 1 i) 0) (leb (32 * b) words) (leb b room) refl refl refl
+  where
+    go : (p q r : Bool) → eqb (refusalOfSizes n 1 i) 0 ≡ p → leb (32 * b) words ≡ q → leb b room ≡ r
+        → _≡_ {A = ℕ} (cond p (cond (q && r) 0 4) (refusalOfSizes n 1 i)) 0 → (refusalOfSizes n 1 i ≡ 0) × (32 * b ≤ words) × (b ≤ room)
+    go true true true ep eq er h = (eqb→eq (refusalOfSizes n 1 i) 0 (passes _ ep), leb→le (32 * b) words (passes _ eq), leb→le b room (passes _ er))
+    go true true false ep eq er h = absurd (omega arith)
+    go true false r ep eq er h = absurd (omega arith)
+    go false q r ep eq er h = let t : T (eqb (refusalOfSizes n 1 i) 0) = rw h tt in absurd (rw ep at t)
+
+pub across-written : (n b : ℕ) (words : List ℕ) (i : ℕ) (part : List ℕ) → refusalOfSizes n 1 i ≡ 0 → b ≤ length part → 32 * b ≤ length words
+    → writtenAcross n b words i part ≡ listOf (across words (i - 1)) b ++ drop b part
+unfolding writtenAcross
+across-written n b words i part r h u =
+    if-done (acrossRefusal n b i (length words) (length part)) (listOf (across words (i - 1)) b ++ drop b part) part
+    (across-accepted n b i (length words) (length part) r u h)

@@ -1,14 +1,14 @@
 -- Why each answer that the code gives is the definition's.
-use mathlib.Core.Path.{_≡_, refl, sym, ap, subst, _∙_}
+use mathlib.Core.Path.{_≡_, refl, sym, ap, _∙_}
 use mathlib.Core.Bool.{Bool, not, _&&_}
 use mathlib.Core.List.{List, [], _∷_, map}
-use Prim.Native.Nat.{ℕ, zero, suc, _+_, _-_, _*_, _≤_, _<_}
+use Prim.Native.Nat.{ℕ, suc, _+_, _-_, _*_, _≤_, _<_}
 use native.Mathlib.Nat.{mod-eq-of-lt, mul-comm, mul-zero}
 use native.Mathlib.Decide.{decLe}
 use native.Mathlib.Omega.{arith}
-use lib.Dec.{T, T-not, lit<, eqb, eqb→eq, ltb, ltb→lt, lt→ltb, leb, le→leb}
+use lib.Dec.{T, T-not, eqb, eqb→eq, ltb, ltb→lt, lt→ltb, leb, le→leb}
 use lib.ListN.{length, length-map, getD}
-use Rattle.lists.specs.Lists.{count, Below}
+use Rattle.lists.specs.Lists.{count}
 use Rattle.lists.specs.Tests.{and-left, and-right, and-both, eq→eqb}
 use Rattle.lists.specs.Count.{mono, cover, longer, count-same}
 use Rattle.field.specs.Field.{of}
@@ -42,21 +42,10 @@ value-four (a ∷ b ∷ c ∷ d ∷ e ∷ f) x h = absurd (omega arith)
 hits-four : (f : List ℕ) (y : ℕ → ℕ) (n : ℕ) → length f ≤ 4 → hits (four (coefficients f)) y n ≡ hits f y n
 hits-four f y n h = count-same (meetsAt (four (coefficients f)) y) (meetsAt f y) n (λ i l u. ap (λ (z : ℕ). eqb z (y i)) (value-four f i h))
 
-below-four : (f : List ℕ) → Below 257 f → Below 257 (four (coefficients f))
-below-four f h zero = h 0
-below-four f h (suc zero) = h 1
-below-four f h (suc (suc zero)) = h 2
-below-four f h (suc (suc (suc zero))) = h 3
-below-four f h (suc (suc (suc (suc i)))) = lit< tt
-
 -- c is the polynomial through the points at k places
 pub record Through (points xs : List ℕ) (k : ℕ) (c : Coefficients) : Type 0 where
   pub size : length xs ≡ k
   pub is : c ≡ coefficients (through xs (map (at points) xs))
-
-pub through-small : (points xs : List ℕ) (k : ℕ) (c : Coefficients) → Through points xs k c → Below 257 (four c)
-through-small points xs k c p =
-    subst (λ (c : Coefficients). Below 257 (four c)) (sym (p .is)) (below-four (through xs (map (at points) xs)) (through-below xs (map (at points) xs)))
 
 -- and the places are the first k usable ones
 pub record Candidate (points es : List ℕ) (k : ℕ) (c : Coefficients) : Type 0 where

@@ -7,12 +7,15 @@ use mathlib.Core.Logic.{⊎-elim}
 use native.Mathlib.Nat.{eq-or-lt-of-le, le-of-suc-le-suc}
 use native.Mathlib.Numerals.{add-one}
 use native.Mathlib.Omega.{arith}
-use lib.Dec.{T, T-not, ltb}
+use lib.Dec.{T, T-not, eqb, ltb}
 use lib.ListN.{length, getD, take, length-take}
-use Rattle.lists.specs.Entries.{getD-within}
+use Rattle.lists.specs.Lists.{bit, count, listOf}
+use Rattle.lists.specs.Entries.{getD-within, getD-listOf}
+use Rattle.lists.specs.Count.{count-same}
 use Rattle.field.specs.Field.{of, subtract, multiply, blank}
+use Rattle.block.specs.Block.{part, value, wordAt}
 use Rattle.messages.specs.Messages.{from as at}
-use Rattle.decoder.specs.Decoder.{slope, slopes, under, through, coefficients}
+use Rattle.decoder.specs.Decoder.{meetsAt, hits, slope, slopes, under, through, coefficients, four}
 use Rattle.decoder.specs.Interpolation.{through-length}
 use Rattle.decoder.specs.Places.{Next}
 use Rattle.decoder.specs.declared.Coefficients.{Coefficients}
@@ -95,6 +98,28 @@ unfolding at
 at-index points i h =
     let e : i + 1 - 1 ≡ i = omega arith in
     rw e (getD-within points i 0 blank h)
+
+-- COUNTING HITS by the codeword of a polynomial
+
+-- its value at place x is the point there
+unfoldable pub sameAt : List ℕ → (ℕ → ℕ) → ℕ → Bool
+sameAt word y x = eqb (getD word (x - 1) 0) (y x)
+
+pub same-hits : (c : Coefficients) (word : List ℕ) (y : ℕ → ℕ) (n : ℕ) → n ≤ 32 → word ≡ listOf (wordAt (part (four c) 0 4)) 32
+    → count (sameAt word y) n ≡ hits (four c) y n
+unfolding sameAt wordAt part
+same-hits c word y n h e =
+    count-same (sameAt word y) (meetsAt (four c) y) n (λ x l u.
+    let place : x - 1 + 1 ≡ x = omega arith in
+    ap (λ (v : ℕ). eqb v (y x))
+    (ap (λ (w : List ℕ). getD w (x - 1) 0) e ∙ getD-listOf (wordAt (four c)) 32 (x - 1) 0 (omega arith) ∙ ap (λ (z : ℕ). value (four c) z) place))
+
+-- at index i
+pub same-index : (word points : List ℕ) (i : ℕ) → i < length points → bit (eqb (getD word i 0) (getD points i 0)) ≡ bit (sameAt word (at points) (i + 1))
+unfolding sameAt
+same-index word points i h =
+    let e : i + 1 - 1 ≡ i = omega arith in
+    rw e (ap (λ (y : ℕ). bit (eqb (getD word i 0) y)) (at-index points i h))
 
 -- FINDING THE NEXT PLACE
 

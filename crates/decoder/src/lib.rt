@@ -5,12 +5,11 @@ use field::Field;
 ghost use mathlib.Core.Path.{_≡_};
 ghost use mathlib.Core.Bool.{cond};
 ghost use mathlib.Core.List.{map};
-ghost use Prim.Native.Nat.{_+_, _-_, _*_, _<_, _≤_};
-ghost use lib.Dec.{eqb, ltb};
+ghost use Prim.Native.Nat.{_+_, _≤_};
+ghost use lib.Dec.{ltb};
 ghost use lib.ListN.{length, take};
-ghost use Rattle.lists.specs.Lists.{bit, count, Below};
-ghost use Rattle.field.specs.Field.{of, subtract, multiply};
-ghost use Rattle.block.specs.Block.{value as valueOf};
+ghost use Rattle.lists.specs.Lists.{bit, count};
+ghost use Rattle.field.specs.Field.{subtract, multiply};
 ghost use Rattle.messages.specs.Messages.{from as at};
 ghost use Rattle.decoder.specs.Decoder.{hits as hitsOf, slope as slopeOf, slopes as slopesOf, through as throughOf, coefficients, four, decoded};
 ghost use Rattle.decoder.specs.Exactly.{Accepts};
@@ -41,42 +40,16 @@ struct Four {
     d: u16,
 }
 
-// c plus x times v. No such sum reaches 65536, so that the machine does eight places at a time.
-fn plus_times(c: u16, x: u16, v: u16) -> u16
-    requires { ⌜ (c < 257) × (x ≤ 31) × (v < 257) ⌝ }
-    ensures { λ r. ⌜ (r < 257) × (r ≡ of (c + x * v)) ⌝ }
-{
-    (c + x * v) % Field::MODULUS
-}
-
-// The value of a polynomial at x.
-fn value(c: Coefficients, x: u16) -> u16
-    requires { ⌜ (x ≤ 31) × Below 257 (four c) ⌝ }
-    ensures { λ r. ⌜ r ≡ valueOf (four c) x ⌝ }
-{
-    let last = plus_times(c.c2, x, c.c3);
-    plus_times(c.c0, x, plus_times(c.c1, x, last))
-}
-
-// 1 where a polynomial has the value y at x, else 0.
-fn hit(c: Coefficients, x: u16, y: u16) -> u16
-    requires { ⌜ (x ≤ 31) × Below 257 (four c) ⌝ }
-    ensures { λ r. ⌜ r ≡ bit (eqb (valueOf (four c) x) y) ⌝ }
-{
-    if value(c, x) == y {
-        return 1;
-    }
-    0
-}
-
 // How many of the points a polynomial meets.
 fn hits(n: usize, points: &[u16], c: Coefficients) -> usize
-    requires { ⌜ (n ≤ 31) × (length (now points) ≡ n) × Below 257 (four c) ⌝ }
+    requires { ⌜ (n ≤ 31) × (length (now points) ≡ n) ⌝ }
     ensures { λ r. ⌜ r ≡ hitsOf (four c) (at (now (points .entry))) n ⌝ }
 {
+    let coefficients = [c.c0, c.c1, c.c2, c.c3];
+    let word = block::word(&coefficients, 4);
     let mut sum = 0u16;
     for i in 0..n {
-        sum += hit(c, (i + 1) as u16, points[i]);
+        sum += messages::flag(word[i] == points[i]) as u16;
     }
     sum as usize
 }
@@ -85,7 +58,7 @@ fn hits(n: usize, points: &[u16], c: Coefficients) -> usize
 fn one_if_point(y: u16) -> u16
     ensures { λ r. ⌜ r ≡ bit (ltb y 257) ⌝ }
 {
-    if y < 257 {
+    if y < Field::MODULUS {
         return 1;
     }
     0
@@ -141,11 +114,12 @@ fn difference(v: u16, r: u16, c: u16) -> u16
 fn push(v: u16, r: u16, q: Coefficients) -> Coefficients
     ensures { λ c. ⌜ c ≡ pushed v r q ⌝ }
 {
+    let last = Field::of(q.c2);
     Coefficients {
         c0: difference(v, r, q.c0),
         c1: difference(q.c0, r, q.c1),
         c2: difference(q.c1, r, q.c2),
-        c3: q.c2 % Field::MODULUS,
+        c3: last.0,
     }
 }
 
@@ -206,7 +180,7 @@ fn usable(points: &[u16], es: &[u16; 64], x: u16) -> bool
     ensures { λ r. ⌜ r ≡ usableOf (now (points .entry)) (now (es .entry)) x ⌝ }
 {
     let i = (x - 1) as usize;
-    if at_place(points, x) < 257 {
+    if at_place(points, x) < Field::MODULUS {
         return es[i] != 0;
     }
     false

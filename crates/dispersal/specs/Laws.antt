@@ -53,10 +53,10 @@ paired-list b words own j =
     rw (le-ltb (b + k) b (omega arith), e) refl)))
 
 -- both were written, those of column j through the part that starts behind the own
-pub paired-written : (b : ℕ) (words : List ℕ) (own j : ℕ) (d d₁ e : List ℕ) → own - 1 < 32 → j - 1 < 32 → 32 * b ≤ length words → 2 * b ≤ length d
-    → d₁ ≡ writtenAcross b words (own - 1) d → e ≡ writtenAcross b words (j - 1) (take (length d₁ - b) (drop b d₁))
+pub paired-written : (n b : ℕ) (words : List ℕ) (own j : ℕ) (d d₁ e : List ℕ) → refusal n 1 own ≡ 0 → refusal n 1 j ≡ 0 → 32 * b ≤ length words → 2 * b ≤ length d
+    → d₁ ≡ writtenAcross n b words own d → e ≡ writtenAcross n b words j (take (length d₁ - b) (drop b d₁))
     → take b d₁ ++ (e ++ drop (length d₁ - b) (drop b d₁)) ≡ listOf (paired b words own j) (2 * b) ++ drop (2 * b) d
-paired-written b words own j d d₁ e ho hj hw room p q =
+paired-written n b words own j d d₁ e ho hj hw room p q =
     let twice : 2 * b ≡ b + b = omega arith in
     rw (
       none-behind d₁ b,
@@ -66,7 +66,7 @@ paired-written b words own j d d₁ e ho hj hw room p q =
       first,
       take-at mine (drop b d) b size,
       drop-at mine (drop b d) b size,
-      across-written b words (j - 1) (drop b d) (omega (arith, length-drop b d)) hj hw,
+      across-written n b words j (drop b d) hj (omega (arith, length-drop b d)) hw,
       drop-drop,
       ← append-assoc,
       paired-list b words own j,
@@ -80,7 +80,7 @@ paired-written b words own j d d₁ e ho hj hw room p q =
     size = length-listOf (across words (own - 1)) b
 
     first : d₁ ≡ mine ++ drop b d
-    first = p ∙ across-written b words (own - 1) d (omega arith) ho hw
+    first = p ∙ across-written n b words own d ho (omega arith) hw
 
 -- they are the messages of the exchange
 pub paired-is : (n m own : ℕ) (bytes : List ℕ) (b : ℕ) (words : List ℕ) → refusal n m own ≡ 0 → b ≡ blocks n m → words ≡ codewords n m bytes

@@ -1,4 +1,5 @@
 // Round 1: what a column sends each other one of its record, and which columns it agrees with.
+use field::Field;
 ghost use mathlib.Core.Path.{_≡_};
 ghost use Prim.Native.Nat.{_+_, _-_, _*_, _≤_, _<_};
 ghost use mathlib.Core.List.{_++_};
@@ -17,13 +18,13 @@ pub struct Agreed {
 
 // Writes the message to the column `to` to the front of a part of the outgoing slice: the values at the own point, then those at the
 // receiver's. `words` are the codewords of the record.
-fn send_one(b: u16, words: &[u16], own: u8, to: u8, part: &mut [u16])
-    requires { ⌜ (1 ≤ own) × (own ≤ 32) × (1 ≤ to) × (to ≤ 32) × (32 * b ≤ length (now words)) × (2 * b ≤ length (now part)) ⌝ }
+fn send_one(n: u8, b: u16, words: &[u16], own: u8, to: u8, part: &mut [u16])
+    requires { ⌜ (refusalOfSizes n 1 own ≡ 0) × (refusalOfSizes n 1 to ≡ 0) × (32 * b ≤ length (now words)) × (2 * b ≤ length (now part)) ⌝ }
     ensures { λ _. ⌜ now (part .exit) ≡ listOf (paired b (now (words .entry)) own to) (2 * b) ++ drop (2 * b) (now (part .entry)) ⌝ }
 {
     let second = b as usize;
-    codeword::write(b, words, own - 1, part);
-    codeword::write(b, words, to - 1, &mut part[second..]);
+    codeword::write(n, b, words, own, part);
+    codeword::write(n, b, words, to, &mut part[second..]);
 }
 
 // Writes the message to each of n columns, each through the part of the slice that starts at its place.
@@ -32,11 +33,11 @@ fn send_all(n: u8, m: u8, own: u8, bytes: [u8; 32], out: &mut [u16])
     ensures { λ _. ⌜ now (out .exit) ≡ exchanges n m own bytes ⌝ }
 {
     let b = sizes::blocks(n, m) as u16;
-    let mut words = [65535u16; 1024];
+    let mut words = [Field::BLANK; 1024];
     codeword::codewords(n, m, bytes, &mut words);
     for j in 0..n {
         let at = messages::place(j, 2 * b, 0);
-        send_one(b, &words, own, j + 1, &mut out[at..]);
+        send_one(n, b, &words, own, j + 1, &mut out[at..]);
     }
 }
 
@@ -109,7 +110,7 @@ fn flags(n: u8, m: u8, own: u8, bytes: [u8; 32], inbox: &[u16]) -> [bool; 31]
     ensures { λ r. ⌜ r ≡ agreementsOf n m own bytes (now (inbox .entry)) ⌝ }
 {
     let b = sizes::blocks(n, m) as u16;
-    let mut words = [65535u16; 1024];
+    let mut words = [Field::BLANK; 1024];
     codeword::codewords(n, m, bytes, &mut words);
     let mut all = [false; 31];
     for i in 0..31u8 {

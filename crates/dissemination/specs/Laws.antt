@@ -88,12 +88,10 @@ unfoldable pub pointsAcross : List ℕ → ℕ → ℕ → ℕ
 pointsAcross words j k = across words (j - 1) k
 
 -- it was written for column j + 1
-pub across-row : (b : ℕ) (words : List ℕ) (j : ℕ) (part : List ℕ) → b ≤ length part → j < 32 → 32 * b ≤ length words
-    → writtenAcross b words j part ≡ listOf (pointsAcross words (j + 1)) b ++ drop b part
+pub across-row : (n b : ℕ) (words : List ℕ) (j : ℕ) (part : List ℕ) → refusal n 1 (j + 1) ≡ 0 → b ≤ length part → 32 * b ≤ length words
+    → writtenAcross n b words (j + 1) part ≡ listOf (pointsAcross words (j + 1)) b ++ drop b part
 unfolding pointsAcross
-across-row b words j part h l u =
-    let e : j ≡ j + 1 - 1 = omega arith in
-    across-written b words j part h l u ∙ ap (λ (i : ℕ). listOf (across words i) b ++ drop b part) e
+across-row n b words j part r h u = across-written n b words (j + 1) part r h u
 
 pub points-are : (n m : ℕ) (bytes : List ℕ) (b : ℕ) (words : List ℕ) → refusal n m 1 ≡ 0 → b ≡ blocks n m → words ≡ codewords n m bytes
     → rowsOf (pointsAcross words) b n ≡ pointsToAll n m true bytes

@@ -3,6 +3,7 @@
 pub mod decoding;
 pub mod points;
 
+use field::Field;
 ghost use mathlib.Core.Path.{_≡_};
 ghost use Rattle.lists.specs.Lists.{listOf};
 ghost use Rattle.dissemination.specs.Dissemination.{roundRefusal};
@@ -27,14 +28,14 @@ fn silenced_unless(speaks: bool, values: [u16; 32]) -> [u16; 32]
     if speaks {
         return values;
     }
-    [65535u16; 32]
+    [Field::BLANK; 32]
 }
 
 // The values read as points.
 fn read_points(values: [u16; 31]) -> [u16; 31]
     ensures { λ r. ⌜ r ≡ listOf (readAt values) 31 ⌝ }
 {
-    let mut points = [65535u16; 31];
+    let mut points = [Field::BLANK; 31];
     for i in 0..31 {
         points[i] = messages::read_point(messages::value(&values, i));
     }

@@ -27,11 +27,11 @@ fn send_all(n: u8, m: u8, bytes: [u8; 32], out: &mut [u16])
     ensures { λ _. ⌜ now (out .exit) ≡ pointsToAll n m true bytes ⌝ }
 {
     let b = sizes::blocks(n, m) as u16;
-    let mut words = [65535u16; 1024];
+    let mut words = [Field::BLANK; 1024];
     codeword::codewords(n, m, bytes, &mut words);
     for j in 0..n {
         let at = messages::place(j, b, 0);
-        codeword::write(b, &words, j, &mut out[at..]);
+        codeword::write(n, b, &words, j + 1, &mut out[at..]);
     }
 }
 
@@ -42,7 +42,7 @@ pub fn send(n: u8, m: u8, speaks: bool, bytes: [u8; 32], out: &mut [u16]) -> u8
         × (now (out .exit) ≡ unlessRefused (roundRefusal n m 1 (length (now (out .entry)))) (pointsToAll n m speaks bytes) (now (out .entry))) ⌝ }
 {
     if !speaks {
-        return super::decoding::send(n, m, false, [65535u16; 32], out);
+        return super::decoding::send(n, m, false, [Field::BLANK; 32], out);
     }
     let why = refusal(n, m, 1, out.len());
     if why != 0 {
@@ -69,7 +69,7 @@ fn gathered(n: u8, own: u8, mine: u16, b: u16, inbox: &[u16], k: u16) -> [u16; 3
     requires { ⌜ (n ≤ 31) × (k < b) × (n * b ≡ length (now inbox)) ⌝ }
     ensures { λ r. ⌜ r ≡ listOf (placed n (heardOf own mine b (now (inbox .entry)) k)) 32 ⌝ }
 {
-    let mut values = [65535u16; 32];
+    let mut values = [Field::BLANK; 32];
     for i in 0..n {
         let at = i as usize;
         values[at] = heard_at(own, mine, b, inbox, k, i);
@@ -118,7 +118,7 @@ fn kept_point(n: u8, own: u8, mine: u16, b: u16, inbox: &[u16], k: u16) -> u16
 {
     let t = sizes::faults(n);
     let values = gathered(n, own, mine, b, inbox, k);
-    let mut best = 65535u16;
+    let mut best = Field::BLANK;
     for i in 0..n {
         let at = i as usize;
         let v = values[at];
@@ -150,9 +150,10 @@ fn kept_points(n: u8, m: u8, own: u8, speaks: bool, bytes: [u8; 32], inbox: &[u1
     ensures { λ r. ⌜ r ≡ keptPoints n m own speaks bytes (now (inbox .entry)) ⌝ }
 {
     let b = sizes::blocks(n, m) as u16;
-    let values = codeword::values(n, m, bytes, own as u16);
+    let at_own = codeword::values(n, m, bytes, own);
+    let values = at_own.values;
     let mine = silenced_unless(speaks, values);
-    let mut all = [65535u16; 32];
+    let mut all = [Field::BLANK; 32];
     for k in 0..32u16 {
         let at = k as usize;
         all[at] = kept_at(n, own, &mine, b, inbox, k);
@@ -168,7 +169,7 @@ pub fn kept(n: u8, m: u8, own: u8, speaks: bool, bytes: [u8; 32], inbox: &[u16])
     if why != 0 {
         return KeptPoints {
             refusal: why,
-            points: [65535u16; 32],
+            points: [Field::BLANK; 32],
         };
     }
     let points = kept_points(n, m, own, speaks, bytes, inbox);

@@ -1,7 +1,7 @@
 -- Equal modulo 257, on unreduced numbers. A congruence is crossed with an equation that names the multiples of 257, and back;
 -- `omega` does what lies between.
 use mathlib.Core.Path.{_≡_, sym, ap, _∙_}
-use Prim.Native.Nat.{ℕ, _+_, _*_, _/_, _%_}
+use Prim.Native.Nat.{ℕ, _+_, _-_, _*_, _/_, _%_}
 use native.Mathlib.Nat.{mod-mod, add-mul-mod-self-left, mul-comm}
 use native.Mathlib.Omega.{arith}
 
@@ -33,3 +33,8 @@ times a a′ b b′ h k =
 -- a sum of reduced products
 pub products : (a b c d : ℕ) → a * b % 257 + c * d % 257 ≋ a * b + c * d
 products a b c d = omega arith
+
+-- 65536 leaves 1, and 256 leaves -1
+pub near : (x : ℕ) → x % 65536 % 256 + x / 65536 + 257 - x % 65536 / 256 ≋ x
+near x =
+    by-multiples (x % 65536 % 256 + x / 65536 + 257 - x % 65536 / 256) x (255 * (x / 65536) + x % 65536 / 256) 1 (omega arith)

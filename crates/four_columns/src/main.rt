@@ -6,6 +6,7 @@ mod posted;
 use column::Column;
 use column::Outcome;
 use column::Reply;
+use field::Field;
 use libc::STDOUT_FILENO;
 ghost use Prim.Native.Nat.{_≤_};
 
@@ -41,7 +42,7 @@ fn width(round: u8) -> usize
 }
 
 fn spoken(column: Column, round: u8) -> Turn {
-    let mut out = [65535u16; 8];
+    let mut out = [Field::BLANK; 8];
     let len = 4 * width(round);
     let answered = column::speak(column, &mut out[..len]);
     let after = answered.column;
@@ -81,16 +82,16 @@ fn delivered(to: u8, round: u8, a: [u16; 8], b: [u16; 8], c: [u16; 8], d: [u16; 
         value(b, to, 1, 0),
         value(c, to, 1, 0),
         value(d, to, 1, 0),
-        65535,
-        65535,
-        65535,
-        65535,
+        Field::BLANK,
+        Field::BLANK,
+        Field::BLANK,
+        Field::BLANK,
     ]
 }
 
 // What column 4 says in the worked sheet: to columns 1 and 2 that it holds 41 as they do, and to column 1 alone its second report.
 fn lies(round: u8) -> [u16; 8] {
-    let blank = 65535u16;
+    let blank = Field::BLANK;
     if round == 1 {
         return [0x41, 0x41, 0x41, 0x41, blank, blank, blank, blank];
     }

@@ -3,35 +3,16 @@
 // interpolation in Koetter's form, without a division; specs/Locator.antt says how.)
 use field::Field;
 ghost use mathlib.Core.Path.{_≡_};
-ghost use Prim.Native.Nat.{_+_, _%_, _<_, _≤_};
+ghost use Prim.Native.Nat.{_+_, _%_, _<_};
 ghost use Rattle.lists.specs.Lists.{listOf};
 ghost use Rattle.locator.specs.Held.{Held, runOf};
-ghost use Rattle.field.specs.Field.{add, subtract, multiply};
-ghost use Rattle.field.specs.Congruence.{_≋_};
+ghost use Rattle.field.specs.Field.{add, multiply};
 ghost use Rattle.locator.specs.Locator.{firstAt, secondAt, mixedAt, cleared, raised, leads as leadsOf, turn as turnOf, located};
 
 // How heavy the two pairs are.
 struct Weights {
     first: u16,
     second: u16,
-}
-
-// A small number that is x modulo 257: 65536 leaves 1, and 256 leaves -1.
-fn near(x: u32) -> u16
-    requires { ⌜ x ≤ 65536 ⌝ }
-    ensures { λ r. ⌜ (r ≤ 513) × (r ≋ x) ⌝ }
-{
-    let low = (x % 65536) as u16;
-    let high = (x / 65536) as u16;
-    low % 256 + high + 257 - low / 256
-}
-
-// a times b plus c times d. Of numbers below 257 every sum fits 16 bits, so that the machine does eight at a time.
-fn products(a: u16, b: u16, c: u16, d: u16) -> u16
-    requires { ⌜ (a < 257) × (b < 257) × (c < 257) × (d < 257) ⌝ }
-    ensures { λ r. ⌜ r ≡ add (multiply a b) (multiply c d) ⌝ }
-{
-    (near(a as u32 * b as u32) + near(c as u32 * d as u32)) % Field::MODULUS
 }
 
 // A number of the first pair at the start, e = 0 and q = 1.
@@ -77,30 +58,33 @@ fn start_second(points: &[u16]) -> [u16; 64]
 
 // a times the other pair plus b times the leading one.
 fn mix(other: &mut [u16; 64], a: u16, b: u16, lead: &[u16; 64])
-    requires { ⌜ (a < 257) × (b < 257) × Held (now other) × Held (now lead) ⌝ }
+    requires { ⌜ Held (now other) × Held (now lead) ⌝ }
     ensures { λ _. ⌜ now (other .exit) ≡ listOf (mixedAt a b (now (other .entry)) (now (lead .entry))) 64 ⌝ }
 {
     for i in 0..64 {
-        other[i] = products(a, other[i], b, lead[i]);
+        let mixed = Field::add_products(Field(a), Field(other[i]), Field(b), Field(lead[i]));
+        other[i] = mixed.0;
     }
 }
 
-// v times the place of index i less another, of which 257 less is `minus`.
+// v times the place of index i less another place, of which `minus` is the negative. The second product is none: the sum of two is what the machine
+// does eight at a time.
 fn raised_at(minus: u16, i: usize, v: u16) -> u16
-    requires { ⌜ (225 ≤ minus) × (minus < 257) × (v < 257) ⌝ }
-    ensures { λ r. ⌜ r ≡ multiply ((i % 32 + 1 + minus) % 257) v ⌝ }
+    ensures { λ r. ⌜ r ≡ multiply (add (i % 32 + 1) minus) v ⌝ }
 {
-    products(((i % 32 + 1) as u16 + minus) % Field::MODULUS, v, 0, 0)
+    let factor = Field::add(Field((i % 32 + 1) as u16), Field(minus));
+    let product = Field::add_products(factor, Field(v), Field(0), Field(0));
+    product.0
 }
 
 // The leading pair times (x - place).
 fn raise(lead: &mut [u16; 64], place: u16)
-    requires { ⌜ (1 ≤ place) × (place ≤ 32) × Held (now lead) ⌝ }
+    requires { ⌜ Held (now lead) ⌝ }
     ensures { λ _. ⌜ now (lead .exit) ≡ raised place (now (lead .entry)) ⌝ }
 {
-    let minus = 257 - place;
+    let minus = Field::subtract(Field(0), Field(place));
     for i in 0..64 {
-        lead[i] = raised_at(minus, i, lead[i]);
+        lead[i] = raised_at(minus.0, i, lead[i]);
     }
 }
 
@@ -132,7 +116,7 @@ fn turn(first: &mut [u16; 64], second: &mut [u16; 64], w: Weights, y: u16, j: us
     requires { ⌜ (j < 32) × (w .first < 1000) × (w .second < 1000) × Held (now first) × Held (now second) ⌝ }
     ensures { λ r. ⌜ runOf (now (first .exit)) (now (second .exit)) r ≡ turnOf (runOf (now (first .entry)) (now (second .entry)) w) y j ⌝ }
 {
-    if 257 <= y {
+    if Field::MODULUS <= y {
         return w;
     }
     let x = first[32 + j];

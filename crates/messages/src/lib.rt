@@ -246,7 +246,7 @@ fn in_places(message: &[u16]) -> [u16; 31]
     requires { ⌜ length (now message) ≤ 31 ⌝ }
     ensures { λ r. ⌜ r ≡ laid 31 (now (message .entry)) ⌝ }
 {
-    let mut values = [65535u16; 31];
+    let mut values = [Field::BLANK; 31];
     for i in 0..message.len() {
         values[i] = message[i];
     }
@@ -277,7 +277,7 @@ pub fn heard_of_all(n: u8, own: u8, mine: &[u16], w: u16, inbox: &[u16], k: u16)
     if one_each(n, w, k, inbox.len()) {
         return one_of_all(n, own, mine, inbox);
     }
-    let mut values = [65535u16; 31];
+    let mut values = [Field::BLANK; 31];
     for i in 0..31u8 {
         let at = i as usize;
         values[at] = heard_from(n, own, mine, w, inbox, k, i);

@@ -1,6 +1,7 @@
 // Round 1 of a posting: the poster's record.
 use agreement::Column;
 use agreement::Stage;
+use field::Field;
 ghost use mathlib.Core.Path.{_≡_};
 ghost use lib.Dec.{eqb, ltb};
 ghost use lib.ListN.{length};
@@ -36,7 +37,7 @@ fn message(column: Column, poster: u8) -> [u16; 32]
     ensures { λ r. ⌜ r ≡ silenced (eqb (column .own) poster) (column .bytes) ⌝ }
 {
     if column.own != poster {
-        return [65535u16; 32];
+        return [Field::BLANK; 32];
     }
     let bytes = column.bytes;
     values(bytes)

@@ -213,15 +213,23 @@ few-blocks n m number e = omega (arith, blocks-le n m, accepted n m number e .ra
 pub columns-sized : (n : ℕ) → 4 ≤ n → n ≤ 31 → Sized n 1
 columns-sized n l h = sized n 1 (record { columns-low = l; columns-high = h; bytes-low = omega arith; bytes-high = omega arith })
 
-pub columns-accepted : (n : ℕ) → 4 ≤ n → n ≤ 31 → refusal n 1 1 ≡ 0
-columns-accepted n l h =
-    not-refused n 1 1 (record {
+pub column-accepted : (n i : ℕ) → 4 ≤ n → n ≤ 31 → 1 ≤ i → i ≤ n → refusal n 1 i ≡ 0
+column-accepted n i l h low high =
+    not-refused n 1 i (record {
       range = record { columns-low = l; columns-high = h; bytes-low = omega arith; bytes-high = omega arith };
-      number-low = omega arith;
-      number-high = omega arith;
+      number-low = low;
+      number-high = high;
     })
 
--- n of an accepted wall
+pub columns-accepted : (n : ℕ) → 4 ≤ n → n ≤ 31 → refusal n 1 1 ≡ 0
+columns-accepted n l h = column-accepted n 1 l h (omega arith) (omega arith)
+
+-- n and a column of an accepted wall
+pub column-of : (n m number i : ℕ) → refusal n m number ≡ 0 → 1 ≤ i → i ≤ n → refusal n 1 i ≡ 0
+column-of n m number i e low high =
+    let a = accepted n m number e in
+    column-accepted n i (a .range .columns-low) (a .range .columns-high) low high
+
 pub columns-of : (n m number : ℕ) → refusal n m number ≡ 0 → refusal n 1 1 ≡ 0
 columns-of n m number e = let a = accepted n m number e in columns-accepted n (a .range .columns-low) (a .range .columns-high)
 

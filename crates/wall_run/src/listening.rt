@@ -2,6 +2,7 @@
 use crate::space;
 use agreement::Column;
 use delivery::Round;
+use field::Field;
 use sizes::Protocol;
 ghost use mathlib.Core.Path.{_≡_};
 ghost use Prim.Native.Nat.{_+_, _*_, _≤_};
@@ -44,7 +45,7 @@ pub(super) fn listen_all(
 {
     let n = sheet::columns(sheet);
     let len = space::of_one(sheet, round.width);
-    let mut inbox = [65535u16; 992];
+    let mut inbox = [Field::BLANK; 992];
     for i in 0..n {
         let at = i as usize;
         let column = wall[at];

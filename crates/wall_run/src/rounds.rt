@@ -5,6 +5,7 @@ use crate::speaking;
 use crate::start;
 use agreement::Column;
 use delivery::Round;
+use field::Field;
 use sizes::Protocol;
 ghost use mathlib.Core.Path.{_≡_};
 ghost use Prim.Native.Nat.{_*_, _≤_};
@@ -40,7 +41,7 @@ pub(super) fn ended(protocol: Protocol, sheet: &[u8]) -> [Column; 31]
     let last = sizes::rounds_in(protocol, n) as u8;
     let line = sizes::line_in(protocol, n, m) as u16;
     // Room for what 31 columns say, each at most 992 values.
-    let mut mail = [65535u16; 30752];
+    let mut mail = [Field::BLANK; 30752];
     let mut wall = start::start(protocol, sheet);
     let mut offset = 0u16;
     for q in 0..last {

@@ -1,6 +1,7 @@
 // The first half of a round: every sound column speaks. What it says lies in the mail, by the sender's number.
 use crate::space;
 use agreement::Column;
+use field::Field;
 use sizes::Protocol;
 ghost use mathlib.Core.Path.{_≡_};
 ghost use mathlib.Core.List.{_++_};
@@ -19,7 +20,7 @@ pub(super) fn clear(mail: &mut [u16])
 {
     let len = mail.len();
     for p in 0..len {
-        mail[p] = 65535;
+        mail[p] = Field::BLANK;
     }
 }
 

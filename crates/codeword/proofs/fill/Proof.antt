@@ -1,81 +1,72 @@
--- `fill` meets its contract.
+-- `fill` meets its contract: each branch hands on the size of a block as a literal.
 use mathlib.Core.Path.{_∙_}
-use Prim.Native.Nat.{_-_}
 use native.Mathlib.Omega.{arith}
 use borrow.Author.Needs.{needs}
-use Rattle.lists.specs.Loops.{Rowed, rowed-none, rowed-fits, rowed-more, rowed-room, rowed-done}
-use Rattle.codeword.specs.Words.{rowAt, row-written}
+use Rattle.sizes.specs.Laws.{accepted, sized}
+use Rattle.codeword.specs.Words.{rows-are}
 use Rattle.codeword.proofs.fill.Statement.{statement}
 use Rattle.codeword.proofs.fill.Tie as tie
 
-abbrev Inv-loop : tie.InvT-loop
-Inv-loop b size bytes all₀ k₀ all k = Rowed (rowAt b size bytes) 32 32 all₀ all k
+blocks-requires : tie.Need-blocks-requires
+blocks-requires c κs = search needs
 
-abbrev μ-loop : tie.MeasureT-loop
-μ-loop b size bytes all₀ k₀ all k = 32 - k
+degree-requires : tie.Need-degree-requires
+degree-requires c κs = search needs
 
-loop-holds : tie.Need-loop-holds Inv-loop μ-loop
-loop-holds c = rowed-none _ _ _ _ (omega (arith, c .before .pre .1))
+rows-requires : tie.Need-rows-requires
+rows-requires c κs = search needs
 
-mul-at : tie.Need-mul-at Inv-loop μ-loop
-mul-at c = omega arith
+same-length : tie.Need-same-length
+same-length c = search needs
 
-codeword-of-requires : tie.Need-codeword-of-requires Inv-loop μ-loop
-codeword-of-requires c κs = (c .before .before .before .pre .0, omega arith)
+returns : tie.Need-returns
+returns c = c .before .before .rows .ensures ∙ rows-are _ _ _ _ _ (c .before .before .before .before .before .before .blocks2 .ensures) (omega (arith, c .before .before .before .before .before .degree .ensures, c .before .before .before .before .if1 .taken))
 
-slice-aggregate-write : tie.Need-slice-aggregate-write Inv-loop μ-loop
-slice-aggregate-write c = search needs
+rows-requires-2 : tie.Need-rows-requires-2
+rows-requires-2 c κs = search needs
 
-mul-write : tie.Need-mul-write Inv-loop μ-loop
-mul-write c = omega (arith, rowed-fits _ _ _ _ _ _ (c .before .before .before .loop .inv) (omega arith))
+same-length-2 : tie.Need-same-length-2
+same-length-2 c = search needs
 
-sub-write : tie.Need-sub-write Inv-loop μ-loop
-sub-write c = omega (arith, rowed-fits _ _ _ _ _ _ (c .before .before .before .loop .inv) (omega arith))
+returns-2 : tie.Need-returns-2
+returns-2 c = c .before .before .rows2 .ensures ∙ rows-are _ _ _ _ _ (c .before .before .before .before .before .before .before .blocks2 .ensures) (omega (arith, c .before .before .before .before .before .before .degree .ensures, c .before .before .before .before .if2 .taken))
 
-part-write-start : tie.Need-part-write-start Inv-loop μ-loop
-part-write-start c = omega (arith, rowed-fits _ _ _ _ _ _ (c .before .before .before .loop .inv) (omega arith))
+rows-requires-3 : tie.Need-rows-requires-3
+rows-requires-3 c κs = search needs
 
-part-write-end : tie.Need-part-write-end Inv-loop μ-loop
-part-write-end c = omega arith
+same-length-3 : tie.Need-same-length-3
+same-length-3 c = search needs
 
-write-requires : tie.Need-write-requires Inv-loop μ-loop
-write-requires c κs = tt
+returns-3 : tie.Need-returns-3
+returns-3 c = c .before .before .rows3 .ensures ∙ rows-are _ _ _ _ _ (c .before .before .before .before .before .before .before .before .blocks2 .ensures) (omega (arith, c .before .before .before .before .before .before .before .degree .ensures, c .before .before .before .before .if3 .taken))
 
-add-k : tie.Need-add-k Inv-loop μ-loop
-add-k c = omega arith
+rows-requires-4 : tie.Need-rows-requires-4
+rows-requires-4 c κs = search needs
 
-loop-less : tie.Need-loop-less Inv-loop μ-loop
-loop-less c = omega arith
+same-length-4 : tie.Need-same-length-4
+same-length-4 c = search needs
 
-loop-again : tie.Need-loop-again Inv-loop μ-loop
-loop-again c =
-    let i = c .before .before .before .before .before .before .before .loop .inv in
-    rowed-more _ _ _ _ _ _ _ _ i (omega arith) (omega arith)
-    (c .before .before .write .ensures .1 ∙ row-written _ _ _ (rowed-room _ _ _ _ _ _ _ i (omega arith) (omega arith)) (c .before .before .before .before .before .codeword-of .ensures))
-
-same-length : tie.Need-same-length Inv-loop μ-loop
-same-length c = c .before .loop .inv .same
-
-returns : tie.Need-returns Inv-loop μ-loop
-returns c = rowed-done _ _ _ _ _ _ (c .before .loop .inv) (omega arith)
+returns-4 : tie.Need-returns-4
+returns-4 c =
+    let s = c .before .before .before .before .before .before .before .before .before .before in
+    let high = sized (s .args .n) (s .args .m) (accepted (s .args .n) (s .args .m) 1 (s .pre .0) .range) .degree-high in
+    c .before .before .rows4 .ensures ∙ rows-are _ _ _ _ _ (c .before .before .before .before .before .before .before .before .blocks2 .ensures) (omega (arith, c .before .before .before .before .before .before .before .degree .ensures, high, c .before .before .before .before .before .before .if1 .left, c .before .before .before .before .before .if2 .left, c .before .before .before .before .if3 .left))
 
 pub fill-spec : {M : Type 1} → statement M
 fill-spec =
     tie.close
     (tie.spec
-    Inv-loop
-    μ-loop
-    loop-holds
-    mul-at
-    codeword-of-requires
-    slice-aggregate-write
-    mul-write
-    sub-write
-    part-write-start
-    part-write-end
-    write-requires
-    add-k
-    loop-less
-    loop-again
+    blocks-requires
+    degree-requires
+    rows-requires
     same-length
-    returns)
+    returns
+    rows-requires-2
+    same-length-2
+    returns-2
+    rows-requires-3
+    same-length-3
+    returns-3
+    rows-requires-4
+    same-length-4
+    returns-4)

@@ -1,10 +1,15 @@
 -- `value` meets its contract.
-use mathlib.Core.Path.{_∙_}
+use mathlib.Core.Path.{ap, _∙_}
+use mathlib.Core.List.{List}
+use Prim.Native.Nat.{ℕ}
 use native.Mathlib.Nat.{mul-le-mul}
 use native.Mathlib.Omega.{arith}
 use borrow.Author.Tests.{lt-ltb, le-ltb}
 use borrow.Author.Needs.{needs}
-use Rattle.codeword.specs.Words.{valueIn, behind-zero}
+use Rattle.field.specs.declared.Field.{Field}
+use Rattle.block.specs.Block.{part, value as valueOf}
+use Rattle.block.specs.Value.{part-front}
+use Rattle.codeword.specs.Words.{valueIn}
 use Rattle.codeword.proofs.value.Statement.{statement}
 use Rattle.codeword.proofs.value.Tie as tie
 
@@ -12,18 +17,25 @@ returns : tie.Need-returns
 unfolding valueIn
 returns c = simp (le-ltb (c .before .args .k) (c .before .args .b) (omega (arith, c .if1 .taken)))
 
-mul-point : tie.Need-mul-point
-mul-point c = record { fits = omega (arith, mul-le-mul {n₁ = c .before .args .k} {m₁ = c .before .args .size} {n₂ = 255} {m₂ = 255} (omega arith) (omega arith)) }
+mul-coefficients : tie.Need-mul-coefficients
+mul-coefficients c = record { fits = omega (arith, mul-le-mul {n₁ = c .before .args .k} {m₁ = c .before .args .size} {n₂ = 255} {m₂ = 4} (omega arith) (omega arith)) }
 
-cast-point : tie.Need-cast-point
-cast-point c = search needs
+coefficients-requires : tie.Need-coefficients-requires
+coefficients-requires c κs = omega (arith, mul-le-mul {n₁ = c .before .args .k} {m₁ = c .before .args .size} {n₂ = 255} {m₂ = 4} (omega arith) (omega arith))
 
-point-requires : tie.Need-point-requires
-point-requires c κs = omega (arith, mul-le-mul {n₁ = c .before .args .k} {m₁ = c .before .args .size} {n₂ = 255} {m₂ = 255} (omega arith) (omega arith))
+value-requires : tie.Need-value-requires
+value-requires c κs = search needs
 
 returns-2 : tie.Need-returns-2
 unfolding valueIn
-returns-2 c = c .point .ensures ∙ behind-zero _ _ ∙ simp (lt-ltb (c .before .before .args .k) (c .before .before .args .b) (omega (arith, c .before .if1 .left)))
+returns-2 c =
+    let s = c .before .before .before .before in
+    let a = s .args in
+    ap (λ (v : Field). v .0) (c .value .ensures)
+    ∙ ap (λ (cs : List ℕ). valueOf (part cs 0 (a .size)) (a .x)) (c .before .before .coefficients .ensures)
+    ∙ ap (λ (cs : List ℕ). valueOf cs (a .x)) (part-front (a .bytes .now) _ 4 (a .size) (s .pre))
+    ∙ simp (lt-ltb (a .k) (a .b) (omega (arith, c .before .before .before .if1 .left)))
 
 pub value-spec : {M : Type 1} → statement M
-value-spec = tie.close (tie.spec returns mul-point cast-point point-requires returns-2)
+value-spec =
+    tie.close (tie.spec returns mul-coefficients coefficients-requires value-requires returns-2)

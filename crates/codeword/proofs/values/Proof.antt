@@ -1,73 +1,22 @@
 -- `values` meets its contract.
-use mathlib.Core.Path.{ap, _∙_}
-use Prim.Native.Nat.{ℕ, _+_, _-_}
-use native.Mathlib.Omega.{arith}
-use Rattle.lists.specs.Loops.{Filled, filled-none, filled-more, filled-done}
-use Rattle.sizes.specs.Laws.{degree-le}
-use Rattle.messages.specs.Messages.{said, laid}
-use Rattle.codeword.specs.Codeword.{values}
-use Rattle.codeword.specs.Words.{value-in}
+use mathlib.Core.Path.{sym, _∙_}
+use borrow.Author.Needs.{needs}
+use Rattle.sizes.specs.Laws.{first-column}
+use Rattle.codeword.specs.Words.{values-refused, values-done}
 use Rattle.codeword.proofs.values.Statement.{statement}
 use Rattle.codeword.proofs.values.Tie as tie
 
-abbrev Inv-loop : tie.InvT-loop
-Inv-loop n m x bytes b size all₀ k₀ all k = Filled (said (values n m bytes x)) 32 all₀ all k
+refusal-requires : tie.Need-refusal-requires
+refusal-requires c κs = search needs
 
-abbrev μ-loop : tie.MeasureT-loop
-μ-loop n m x bytes b size all₀ k₀ all k = 32 - k
+returns : tie.Need-returns
+returns c = values-refused _ _ _ _ _ (c .before .refusal .ensures) (c .if1 .taken)
 
-blocks-requires : tie.Need-blocks-requires Inv-loop μ-loop
-blocks-requires c κs = tt
+values-of-requires : tie.Need-values-of-requires
+values-of-requires c κs = first-column _ _ _ (sym (c .before .before .refusal .ensures) ∙ c .before .if1 .left)
 
-degree-requires : tie.Need-degree-requires Inv-loop μ-loop
-degree-requires c κs = tt
-
-add-size : tie.Need-add-size Inv-loop μ-loop
-add-size c = omega (arith, c .degree .ensures, degree-le (c .before .before .args .n))
-
-loop-holds : tie.Need-loop-holds Inv-loop μ-loop
-loop-holds c = filled-none _ _ _ (omega arith)
-
-cast-at : tie.Need-cast-at Inv-loop μ-loop
-cast-at c = omega arith
-
-value-requires : tie.Need-value-requires Inv-loop μ-loop
-value-requires c κs = omega (arith, c .before .before .before .degree .ensures, degree-le (c .before .before .before .before .before .args .n))
-
-mul-all : tie.Need-mul-all Inv-loop μ-loop
-mul-all c = omega arith
-
-array-write-all : tie.Need-array-write-all Inv-loop μ-loop
-array-write-all c = omega arith
-
-add-k : tie.Need-add-k Inv-loop μ-loop
-add-k c = omega arith
-
-loop-less : tie.Need-loop-less Inv-loop μ-loop
-loop-less c = omega arith
-
-loop-again : tie.Need-loop-again Inv-loop μ-loop
-loop-again c = filled-more _ _ _ _ _ _ (c .before .before .before .loop .inv) (omega arith) (c .value .ensures ∙ value-in _ _ _ _ _ _ _ (c .before .before .before .before .before .blocks2 .ensures) (ap (λ (d : ℕ). d + 1) (c .before .before .before .before .degree .ensures)))
-
-returns : tie.Need-returns Inv-loop μ-loop
-unfolding laid
-returns c = filled-done _ _ _ _ _ (c .before .loop .inv) (omega arith) (omega arith)
+returns-2 : tie.Need-returns-2
+returns-2 c = values-done _ _ _ _ _ (c .before .before .before .refusal .ensures) _ (c .before .before .if1 .left) (c .values-of .ensures)
 
 pub values-spec : {M : Type 1} → statement M
-values-spec =
-    tie.close
-    (tie.spec
-    Inv-loop
-    μ-loop
-    blocks-requires
-    degree-requires
-    add-size
-    loop-holds
-    cast-at
-    value-requires
-    mul-all
-    array-write-all
-    add-k
-    loop-less
-    loop-again
-    returns)
+values-spec = tie.close (tie.spec refusal-requires returns values-of-requires returns-2)

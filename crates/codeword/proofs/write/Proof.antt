@@ -1,87 +1,51 @@
 -- `write` meets its contract.
-use mathlib.Core.Path.{refl, sym, _∙_}
-use Prim.Native.Nat.{_-_}
+use mathlib.Core.Path.{sym, _∙_}
 use native.Mathlib.Omega.{arith}
-use Rattle.lists.specs.Loops.{Filled, filled-none, filled-more, filled-part}
-use Rattle.codeword.specs.Codeword.{across}
-use Rattle.codeword.specs.Words.{across-written, across-no-room, across-no-place, across-no-words}
+use borrow.Author.Needs.{needs}
+use Rattle.sizes.specs.Laws.{accepted}
+use Rattle.messages.specs.Laws.{if-refused}
+use Rattle.codeword.specs.Codeword.{writtenAcross}
+use Rattle.codeword.specs.Words.{across-fits, across-written}
 use Rattle.codeword.proofs.write.Statement.{statement}
 use Rattle.codeword.proofs.write.Tie as tie
 
-abbrev Inv-loop : tie.InvT-loop
-Inv-loop b words i part₀ all at k₀ part k = Filled (across words i) b part₀ part k
+refusal-requires : tie.Need-refusal-requires
+refusal-requires c κs = search needs
 
-abbrev μ-loop : tie.MeasureT-loop
-μ-loop b words i part₀ all at k₀ part k = b - k
+returns : tie.Need-returns
+unfolding writtenAcross
+returns c = (c .before .refusal .ensures, sym (if-refused _ _ _ (λ z. c .if1 .taken (c .before .refusal .ensures ∙ z))))
 
-returns : tie.Need-returns Inv-loop μ-loop
-returns c = across-no-room _ _ _ _ (c .if1 .taken)
+sub-write-across : tie.Need-sub-write-across
+sub-write-across c = let h = across-fits _ _ _ _ _ (sym (c .before .refusal .ensures) ∙ c .if1 .left) in accepted _ _ _ (h .0) .number-low
 
-returns-2 : tie.Need-returns-2 Inv-loop μ-loop
-returns-2 c = across-no-place _ _ _ _ (omega arith) (c .if2 .taken)
+cast-write-across : tie.Need-cast-write-across
+cast-write-across c = search needs
 
-mul-if3 : tie.Need-mul-if3 Inv-loop μ-loop
-mul-if3 c = omega arith
+write-across-requires : tie.Need-write-across-requires
+write-across-requires c κs =
+    let h = across-fits _ _ _ _ _ (sym (c .before .before .refusal .ensures) ∙ c .before .if1 .left) in
+    let a = accepted _ _ _ (h .0) in
+    (omega (arith, a .number-high, a .range .columns-high), h .1, h .2)
 
-returns-3 : tie.Need-returns-3 Inv-loop μ-loop
-returns-3 c = across-no-words _ _ _ _ (omega arith) (omega arith) (c .if3 .taken)
+same-length : tie.Need-same-length
+same-length c = search needs
 
-loop-holds : tie.Need-loop-holds Inv-loop μ-loop
-loop-holds c = filled-none _ _ _ (omega arith)
-
-mul-part : tie.Need-mul-part Inv-loop μ-loop
-mul-part c = omega arith
-
-add-part : tie.Need-add-part Inv-loop μ-loop
-add-part c = omega arith
-
-mul-part-2 : tie.Need-mul-part-2 Inv-loop μ-loop
-mul-part-2 c = omega arith
-
-shared-slice-read-part : tie.Need-shared-slice-read-part Inv-loop μ-loop
-shared-slice-read-part c = omega arith
-
-mul-part-3 : tie.Need-mul-part-3 Inv-loop μ-loop
-mul-part-3 c = omega arith
-
-slice-write-part : tie.Need-slice-write-part Inv-loop μ-loop
-slice-write-part c = omega arith
-
-add-k : tie.Need-add-k Inv-loop μ-loop
-add-k c = omega arith
-
-loop-less : tie.Need-loop-less Inv-loop μ-loop
-loop-less c = omega arith
-
-loop-again : tie.Need-loop-again Inv-loop μ-loop
-unfolding across
-loop-again c = filled-more _ _ _ _ _ _ (c .before .before .loop .inv) (omega arith) refl
-
-same-length : tie.Need-same-length Inv-loop μ-loop
-same-length c = c .before .loop .inv .same
-
-returns-4 : tie.Need-returns-4 Inv-loop μ-loop
-returns-4 c = filled-part _ _ _ _ _ (c .before .loop .inv) (omega arith) ∙ sym (across-written _ _ _ _ (omega arith) (omega arith) (omega arith))
+returns-2 : tie.Need-returns-2
+returns-2 c =
+    let e = c .before .before .before .before .before .refusal .ensures in
+    let z = c .before .before .before .before .if1 .left in
+    let h = across-fits _ _ _ _ _ (sym e ∙ z) in
+    (sym z ∙ e, c .before .before .write-across .ensures ∙ sym (across-written _ _ _ _ _ (h .0) (h .2) (h .1)))
 
 pub write-spec : {M : Type 1} → statement M
 write-spec =
     tie.close
     (tie.spec
-    Inv-loop
-    μ-loop
+    refusal-requires
     returns
-    returns-2
-    mul-if3
-    returns-3
-    loop-holds
-    mul-part
-    add-part
-    mul-part-2
-    shared-slice-read-part
-    mul-part-3
-    slice-write-part
-    add-k
-    loop-less
-    loop-again
+    sub-write-across
+    cast-write-across
+    write-across-requires
     same-length
-    returns-4)
+    returns-2)

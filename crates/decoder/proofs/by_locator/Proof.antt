@@ -3,7 +3,7 @@ use mathlib.Core.Path.{ap}
 use Prim.Native.Nat.{ℕ, _-_, _*_}
 use native.Mathlib.Omega.{arith}
 use Rattle.decoder.specs.Exactly.{sizes}
-use Rattle.decoder.specs.Answers.{met, through-small, none-left, code-locates}
+use Rattle.decoder.specs.Answers.{met, none-left, code-locates}
 use borrow.Author.Needs.{needs}
 use Rattle.decoder.proofs.by_locator.Statement.{statement}
 use Rattle.decoder.proofs.by_locator.Tie as tie
@@ -21,7 +21,7 @@ sub-if1 c =
 hits-requires : tie.Need-hits-requires
 hits-requires c κs =
     let p = c .before .before .before .pre .accepts in
-    (p .high, p .full, through-small _ _ _ _ (c .candidate .ensures .goes))
+    (p .high, p .full)
 
 returns : tie.Need-returns
 returns c =
@@ -58,7 +58,7 @@ sub-if2 c = search needs
 hits-requires-2 : tie.Need-hits-requires-2
 hits-requires-2 c κs =
     let p = c .before .before .before .before .before .before .before .before .pre .accepts in
-    (p .high, p .full, through-small _ _ _ _ (c .candidate2 .ensures .goes))
+    (p .high, p .full)
 
 returns-2 : tie.Need-returns-2
 returns-2 c =

@@ -2,7 +2,7 @@
 use Prim.Native.Nat.{_+_, _-_}
 use native.Mathlib.Omega.{arith}
 use Rattle.decoder.specs.Exactly.{sizes}
-use Rattle.decoder.specs.Answers.{met, through-small}
+use Rattle.decoder.specs.Answers.{met}
 use Rattle.decoder.specs.Windows.{Missed, missed-none, missed-more, missed-all}
 use Rattle.decoder.proofs.by_windows.Statement.{statement}
 use Rattle.decoder.proofs.by_windows.Tie as tie
@@ -39,7 +39,7 @@ sub-if1 c =
 hits-requires : tie.Need-hits-requires Inv-loop μ-loop
 hits-requires c κs =
     let p = c .before .before .before .before .pre .0 .accepts in
-    (p .high, p .full, through-small _ _ _ _ (c .window .ensures))
+    (p .high, p .full)
 
 returns : tie.Need-returns Inv-loop μ-loop
 returns c =

@@ -1,8 +1,5 @@
 -- `clear` meets its contract.
 use mathlib.Core.Path.{ap, _∙_}
-use Prim.Native.Nat.{_+_, _%_, _-_}
-use native.Mathlib.Nat.{mod-lt}
-use lib.Dec.{lit<}
 use Rattle.lists.specs.Lists.{listOf}
 use Rattle.field.specs.declared.Field.{Field}
 use Rattle.locator.specs.Locator.{discrepancy, mixedAt, cleared}
@@ -32,13 +29,7 @@ subtract-requires : tie.Need-subtract-requires
 subtract-requires c κs = search needs
 
 mix-requires : tie.Need-mix-requires
-mix-requires c κs =
-    let s = c .before .before .before .before in (
-      s .pre .2 .small (32 + s .args .j),
-      rw (c .before .subtract .ensures) (mod-lt (0 + (257 - discrepancy (s .args .other .now) (s .args .j) % 257)) (lit< tt)),
-      s .pre .1,
-      s .pre .2,
-    )
+mix-requires c κs = let s = c .before .before .before .before in (s .pre .1, s .pre .2)
 
 returns : tie.Need-returns
 unfolding cleared

@@ -5,6 +5,7 @@ use native.Mathlib.Omega.{arith}
 use lib.ListN.{getD}
 use Rattle.lists.specs.Loops.{Filled, filled-none, filled-read, filled-more, filled-done}
 use Rattle.field.specs.Field.{add, multiply}
+use Rattle.field.specs.declared.Field.{Field}
 use Rattle.locator.specs.Locator.{mixedAt}
 use Rattle.locator.proofs.mix.Statement.{statement}
 use Rattle.locator.proofs.mix.Tie as tie
@@ -16,26 +17,22 @@ abbrev μ-loop : tie.MeasureT-loop
 μ-loop other₀ a b lead i₀ other i = 64 - i
 
 loop-holds : tie.Need-loop-holds Inv-loop μ-loop
-loop-holds c = filled-none _ _ _ (omega (arith, c .pre .2 .size))
+loop-holds c = filled-none _ _ _ (omega (arith, c .pre .0 .size))
 
-mul-products : tie.Need-mul-products Inv-loop μ-loop
-mul-products c = omega arith
+mul-t9 : tie.Need-mul-t9 Inv-loop μ-loop
+mul-t9 c = omega arith
 
-element-copy-out-products : tie.Need-element-copy-out-products Inv-loop μ-loop
-element-copy-out-products c = omega arith
+element-copy-out-t12 : tie.Need-element-copy-out-t12 Inv-loop μ-loop
+element-copy-out-t12 c = omega arith
 
-mul-products-2 : tie.Need-mul-products-2 Inv-loop μ-loop
-mul-products-2 c = omega arith
+mul-t15 : tie.Need-mul-t15 Inv-loop μ-loop
+mul-t15 c = omega arith
 
-element-copy-out-products-2 : tie.Need-element-copy-out-products-2 Inv-loop μ-loop
-element-copy-out-products-2 c = omega arith
+element-copy-out-t18 : tie.Need-element-copy-out-t18 Inv-loop μ-loop
+element-copy-out-t18 c = omega arith
 
-products-requires : tie.Need-products-requires Inv-loop μ-loop
-products-requires c κs =
-    let s = c .before .before .before .before in
-    let i = c .before .before .before .loop .i in
-    let same = filled-read _ _ _ _ i 0 (c .before .before .before .loop .inv) in
-    (s .pre .0, rw same (s .pre .2 .small i), s .pre .1, s .pre .3 .small i)
+add-products-requires : tie.Need-add-products-requires Inv-loop μ-loop
+add-products-requires c κs = tt
 
 mul-other : tie.Need-mul-other Inv-loop μ-loop
 mul-other c = omega arith
@@ -55,10 +52,10 @@ loop-again c =
     let s = c .before .before .before .before .before in
     let l = c .before .before .before .before .loop in
     filled-more _ _ _ _ _ _ (l .inv) (omega arith)
-    (c .products .ensures ∙ ap (λ (z : ℕ). add (multiply (s .args .a) z) (multiply (s .args .b) (getD (s .args .lead .now) (l .i) 0))) (filled-read _ _ _ _ (l .i) 0 (l .inv)))
+    (ap (λ (v : Field). v .0) (c .add-products .ensures) ∙ ap (λ (z : ℕ). add (multiply (s .args .a) z) (multiply (s .args .b) (getD (s .args .lead .now) (l .i) 0))) (filled-read _ _ _ _ (l .i) 0 (l .inv)))
 
 returns : tie.Need-returns Inv-loop μ-loop
-returns c = filled-done _ _ _ _ _ (c .before .loop .inv) (omega arith) (omega (arith, c .before .before .pre .2 .size))
+returns c = filled-done _ _ _ _ _ (c .before .loop .inv) (omega arith) (omega (arith, c .before .before .pre .0 .size))
 
 pub mix-spec : {M : Type 1} → statement M
 mix-spec =
@@ -67,11 +64,11 @@ mix-spec =
     Inv-loop
     μ-loop
     loop-holds
-    mul-products
-    element-copy-out-products
-    mul-products-2
-    element-copy-out-products-2
-    products-requires
+    mul-t9
+    element-copy-out-t12
+    mul-t15
+    element-copy-out-t18
+    add-products-requires
     mul-other
     element-write-other
     add-i

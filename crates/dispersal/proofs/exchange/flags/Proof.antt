@@ -3,7 +3,9 @@ use mathlib.Core.Path.{refl, _∙_}
 use Prim.Native.Nat.{_-_}
 use native.Mathlib.Omega.{arith}
 use borrow.Author.Needs.{needs}
+use lib.ListN.{replicate}
 use Rattle.lists.specs.Loops.{Filled, filled-none, filled-more, filled-done}
+use Rattle.field.specs.Field.{blank}
 use Rattle.sizes.specs.Laws.{blocks-le, accepted, few-blocks}
 use Rattle.codeword.specs.Words.{codewords-in, length-codewords}
 use Rattle.dispersal.specs.Laws.{agreesAcross, agreements-are}
@@ -47,7 +49,7 @@ agreement-at-requires c κs =
       omega (arith, few, b),
       a .number-low,
       omega (arith, a .number-high, a .range .columns-high),
-      rw (c .before .before .before .before .codewords .ensures, codewords-in (s .args .n) (s .args .m) (s .args .bytes) _ refl, length-codewords (s .args .n) (s .args .m) (s .args .bytes)) (omega (arith, few, b)),
+      rw (c .before .before .before .before .codewords .ensures .1, codewords-in (s .args .n) (s .args .m) (s .args .own) (s .args .bytes) _ (s .pre .0) refl, length-codewords (s .args .n) (s .args .m) (s .args .bytes)) (omega (arith, few, b)),
       rw b (s .pre .1),
       omega arith,
     )
@@ -65,7 +67,7 @@ loop-again : tie.Need-loop-again Inv-loop μ-loop
 loop-again c = filled-more _ _ _ _ _ _ (c .before .before .before .loop .inv) (omega arith) (c .agreement-at .ensures)
 
 returns : tie.Need-returns Inv-loop μ-loop
-returns c = filled-done _ _ _ _ _ (c .before .loop .inv) (omega arith) (omega arith) ∙ agreements-are _ _ _ _ _ _ _ (c .before .before .before .before .before .before .before .pre .0) (c .before .before .before .before .before .before .before .pre .1) (c .before .before .before .before .before .blocks2 .ensures) (c .before .before .before .codewords .ensures ∙ codewords-in _ _ _ _ refl)
+returns c = filled-done _ _ _ _ _ (c .before .loop .inv) (omega arith) (omega arith) ∙ agreements-are _ _ _ _ _ _ _ (c .before .before .before .before .before .before .before .pre .0) (c .before .before .before .before .before .before .before .pre .1) (c .before .before .before .before .before .blocks2 .ensures) (c .before .before .before .codewords .ensures .1 ∙ codewords-in _ _ _ _ (replicate 1024 blank) (c .before .before .before .before .before .before .before .pre .0) refl)
 
 pub flags-spec : {M : Type 1} → statement M
 flags-spec =

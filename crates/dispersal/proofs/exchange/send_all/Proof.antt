@@ -3,8 +3,10 @@ use mathlib.Core.Path.{refl, _∙_}
 use Prim.Native.Nat.{_-_, _*_}
 use native.Mathlib.Omega.{arith}
 use borrow.Author.Needs.{needs}
+use lib.ListN.{replicate}
 use Rattle.lists.specs.Loops.{Rowed, rowed-none, rowed-fits, rowed-more, rowed-room, rowed-done}
-use Rattle.sizes.specs.Laws.{blocks-le, accepted, few-blocks}
+use Rattle.field.specs.Field.{blank}
+use Rattle.sizes.specs.Laws.{blocks-le, accepted, few-blocks, column-of}
 use Rattle.codeword.specs.Words.{codewords-in, length-codewords}
 use Rattle.dispersal.specs.Laws.{paired, paired-is}
 use Rattle.dispersal.proofs.exchange.send_all.Statement.{statement}
@@ -60,11 +62,9 @@ send-one-requires c κs =
     let s = c .before .before .before .before .before .before .before .before .before .before in
     let a = accepted (s .args .n) (s .args .m) (s .args .own) (s .pre .0) in
     let few = few-blocks (s .args .n) (s .args .m) (s .args .own) (s .pre .0) in (
-      a .number-low,
-      omega (arith, a .number-high, a .range .columns-high),
-      omega arith,
-      omega (arith, a .range .columns-high),
-      rw (c .before .before .before .before .before .before .codewords .ensures, codewords-in (s .args .n) (s .args .m) (s .args .bytes) _ refl, length-codewords (s .args .n) (s .args .m) (s .args .bytes)) (omega (arith, few, c .before .before .before .before .before .before .before .before .blocks2 .ensures)),
+      column-of (s .args .n) (s .args .m) (s .args .own) (s .args .own) (s .pre .0) (a .number-low) (a .number-high),
+      column-of (s .args .n) (s .args .m) (s .args .own) _ (s .pre .0) (omega arith) (omega arith),
+      rw (c .before .before .before .before .before .before .codewords .ensures .1, codewords-in (s .args .n) (s .args .m) (s .args .own) (s .args .bytes) _ (s .pre .0) refl, length-codewords (s .args .n) (s .args .m) (s .args .bytes)) (omega (arith, few, c .before .before .before .before .before .before .before .before .blocks2 .ensures)),
       rowed-room _ _ _ _ _ _ _ (c .before .before .before .before .loop .inv) (omega arith) (omega (arith, c .before .before .place .ensures)),
     )
 
@@ -81,7 +81,7 @@ same-length : tie.Need-same-length Inv-loop μ-loop
 same-length c = c .before .loop .inv .same
 
 returns : tie.Need-returns Inv-loop μ-loop
-returns c = rowed-done _ _ _ _ _ _ (c .before .loop .inv) (omega arith) ∙ paired-is _ _ _ _ _ _ (c .before .before .before .before .before .before .before .pre .0) (c .before .before .before .before .before .blocks2 .ensures) (c .before .before .before .codewords .ensures ∙ codewords-in _ _ _ _ refl)
+returns c = rowed-done _ _ _ _ _ _ (c .before .loop .inv) (omega arith) ∙ paired-is _ _ _ _ _ _ (c .before .before .before .before .before .before .before .pre .0) (c .before .before .before .before .before .blocks2 .ensures) (c .before .before .before .codewords .ensures .1 ∙ codewords-in _ _ _ _ (replicate 1024 blank) (c .before .before .before .before .before .before .before .pre .0) refl)
 
 pub send-all-spec : {M : Type 1} → statement M
 send-all-spec =

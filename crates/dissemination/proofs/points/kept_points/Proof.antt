@@ -7,6 +7,8 @@ use borrow.Author.Needs.{needs}
 use Rattle.lists.specs.Loops.{Filled, filled-none, filled-more, filled-done}
 use Rattle.sizes.specs.Laws.{blocks-le, accepted, few-blocks}
 use Rattle.messages.specs.Messages.{said}
+use Rattle.codeword.specs.declared.ValuesAt.{ValuesAt}
+use Rattle.codeword.specs.Words.{values-there}
 use Rattle.dissemination.specs.Laws.{keptFrom, said-own, kept-are}
 use Rattle.dissemination.proofs.points.kept_points.Statement.{statement}
 use Rattle.dissemination.proofs.points.kept_points.Tie as tie
@@ -40,8 +42,8 @@ slice-aggregate-kept-at c = search needs
 
 kept-at-requires : tie.Need-kept-at-requires Inv-loop μ-loop
 kept-at-requires c κs =
-    let s = c .before .before .before .before .before .before .before in
-    (accepted (s .args .n) (s .args .m) (s .args .own) (s .pre .0) .range .columns-high, rw (c .before .before .before .before .before .blocks2 .ensures) (s .pre .1))
+    let s = c .before .before .before .before .before .before .before .before in
+    (accepted (s .args .n) (s .args .m) (s .args .own) (s .pre .0) .range .columns-high, rw (c .before .before .before .before .before .before .blocks2 .ensures) (s .pre .1))
 
 mul-all : tie.Need-mul-all Inv-loop μ-loop
 mul-all c = omega arith
@@ -60,12 +62,13 @@ loop-again c = filled-more _ _ _ _ _ _ (c .before .before .before .loop .inv) (o
 
 returns : tie.Need-returns Inv-loop μ-loop
 returns c =
-    let s = c .before .before .before .before .before .before in
+    let s = c .before .before .before .before .before .before .before in
     let a = s .args in
     filled-done _ _ _ _ _ (c .before .loop .inv) (omega arith) (omega arith)
-    ∙ kept-are (a .n) (a .m) (a .own) (a .speaks) (a .bytes) (a .inbox .now) _ _ (c .before .before .before .before .blocks2 .ensures) (λ i.
+    ∙ kept-are (a .n) (a .m) (a .own) (a .speaks) (a .bytes) (a .inbox .now) _ _ (c .before .before .before .before .before .blocks2 .ensures) (λ i.
     ap (λ (l : List ℕ). said l i) (c .before .before .silenced-unless .ensures)
-    ∙ said-own (a .n) (a .m) (a .speaks) (a .bytes) (a .own) (few-blocks (a .n) (a .m) (a .own) (s .pre .0)) _ (c .before .before .before .values .ensures) i)
+    ∙ said-own (a .n) (a .m) (a .speaks) (a .bytes) (a .own) (few-blocks (a .n) (a .m) (a .own) (s .pre .0)) _
+    (ap (λ (v : ValuesAt). v .values) (c .before .before .before .before .values .ensures) ∙ values-there (a .n) (a .m) (a .own) (a .bytes) (s .pre .0)) i)
 
 pub kept-points-spec : {M : Type 1} → statement M
 kept-points-spec =

@@ -3,8 +3,10 @@ use mathlib.Core.Path.{refl, _∙_}
 use Prim.Native.Nat.{_-_}
 use native.Mathlib.Omega.{arith}
 use borrow.Author.Needs.{needs}
+use lib.ListN.{replicate}
 use Rattle.lists.specs.Loops.{Rowed, rowed-none, rowed-fits, rowed-more, rowed-room, rowed-done}
-use Rattle.sizes.specs.Laws.{blocks-le, accepted, few-blocks}
+use Rattle.field.specs.Field.{blank}
+use Rattle.sizes.specs.Laws.{blocks-le, accepted, few-blocks, column-of}
 use Rattle.codeword.specs.Words.{codewords-in, length-codewords}
 use Rattle.dissemination.specs.Laws.{pointsAcross, across-row, points-are}
 use Rattle.dissemination.proofs.points.send_all.Statement.{statement}
@@ -37,6 +39,9 @@ place-requires c κs = tt
 slice-aggregate-write : tie.Need-slice-aggregate-write Inv-loop μ-loop
 slice-aggregate-write c = search needs
 
+add-write : tie.Need-add-write Inv-loop μ-loop
+add-write c = omega (arith, accepted (c .before .before .before .before .before .before .before .before .before .args .n) (c .before .before .before .before .before .before .before .before .before .args .m) 1 (c .before .before .before .before .before .before .before .before .before .pre .0) .range .columns-high)
+
 mul-write : tie.Need-mul-write Inv-loop μ-loop
 mul-write c = omega (arith, c .before .place .ensures, rowed-fits _ _ _ _ _ _ (c .before .before .before .loop .inv) (omega arith), c .before .before .before .before .before .before .before .before .before .good)
 
@@ -66,15 +71,15 @@ loop-again c =
     let at = c .before .before .before .before .before .place .ensures in
     let i = c .before .before .before .before .before .before .before .loop .inv in
     rowed-more _ _ _ _ _ _ _ _ i (omega arith) (omega (arith, at))
-    (c .before .before .write .ensures
-    ∙ across-row _ _ _ _ (rowed-room _ _ _ _ _ _ _ i (omega arith) (omega (arith, at))) (omega (arith, accepted (s .args .n) (s .args .m) 1 (s .pre .0) .range .columns-high))
-    (rw (c .before .before .before .before .before .before .before .before .before .codewords .ensures, codewords-in (s .args .n) (s .args .m) (s .args .bytes) _ refl, length-codewords (s .args .n) (s .args .m) (s .args .bytes)) (omega (arith, few, b))))
+    (c .before .before .write .ensures .1
+    ∙ across-row _ _ _ _ _ (column-of (s .args .n) (s .args .m) 1 _ (s .pre .0) (omega arith) (omega arith)) (rowed-room _ _ _ _ _ _ _ i (omega arith) (omega (arith, at)))
+    (rw (c .before .before .before .before .before .before .before .before .before .codewords .ensures .1, codewords-in (s .args .n) (s .args .m) 1 (s .args .bytes) (replicate 1024 blank) (s .pre .0) refl, length-codewords (s .args .n) (s .args .m) (s .args .bytes)) (omega (arith, few, b))))
 
 same-length : tie.Need-same-length Inv-loop μ-loop
 same-length c = c .before .loop .inv .same
 
 returns : tie.Need-returns Inv-loop μ-loop
-returns c = rowed-done _ _ _ _ _ _ (c .before .loop .inv) (omega arith) ∙ points-are _ _ _ _ _ (c .before .before .before .before .before .before .before .pre .0) (c .before .before .before .before .before .blocks2 .ensures) (c .before .before .before .codewords .ensures ∙ codewords-in _ _ _ _ refl)
+returns c = rowed-done _ _ _ _ _ _ (c .before .loop .inv) (omega arith) ∙ points-are _ _ _ _ _ (c .before .before .before .before .before .before .before .pre .0) (c .before .before .before .before .before .blocks2 .ensures) (c .before .before .before .codewords .ensures .1 ∙ codewords-in _ _ _ _ (replicate 1024 blank) (c .before .before .before .before .before .before .before .pre .0) refl)
 
 pub send-all-spec : {M : Type 1} → statement M
 send-all-spec =
@@ -89,6 +94,7 @@ send-all-spec =
     loop-holds
     place-requires
     slice-aggregate-write
+    add-write
     mul-write
     sub-write
     part-write-start

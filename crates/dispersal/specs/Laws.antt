@@ -6,7 +6,7 @@ use Prim.Native.Nat.{ℕ, _+_, _-_, _*_, _≤_, _<_}
 use native.Mathlib.Omega.{arith}
 use native.Mathlib.Decide.{decLt}
 use borrow.Author.Tests.{lt-ltb, le-ltb, eq-eqb, ne-eqb, eqb-true, eqb-false}
-use lib.Dec.{T, eqb, ltb, eqb→eq}
+use lib.Dec.{T, eqb, ltb, leb, eqb→eq}
 use lib.ListN.{length, getD, take, drop, replicate, length-drop, List·getD-append}
 use lib.Seq.{take-at, drop-at, drop-drop, getD-append-add}
 use Rattle.lists.specs.Lists.{count, all, listOf, rowsOf}
@@ -16,14 +16,14 @@ use Rattle.lists.specs.Rows.{row-fits, rowsOf-same}
 use Rattle.lists.specs.Loops.{all-of, none-behind}
 use Rattle.lists.specs.Count.{count-same}
 use Rattle.field.specs.Field.{blank}
-use Rattle.sizes.specs.Sizes.{blocks, refusal}
+use Rattle.sizes.specs.Sizes.{faults, blocks, refusal}
 use Rattle.sizes.specs.Laws.{Accepted, accepted, few-blocks}
 use Rattle.messages.specs.Messages.{readPoint, readReport, said, heard, times}
 use Rattle.messages.specs.Laws.{point-is, same-report, same-point, heard-own, heard-other}
 use Rattle.codeword.specs.Codeword.{point, values, meetIn, meets, codewords, across, writtenAcross}
 use Rattle.codeword.specs.Apart.{point-lt, length-values, said-values}
 use Rattle.codeword.specs.Words.{across-is, across-written}
-use Rattle.dispersal.specs.Dispersal.{exchange, exchanges, agreesIn, agreesWith, agreementAt, agreements, agrees, reportAt, reports, reported, both, readReports, exchangeRefusal, agreed}
+use Rattle.dispersal.specs.Dispersal.{exchange, exchanges, agreesIn, agreesWith, agreementAt, agreements, agrees, reportAt, reports, reported, both, secondQuorum, readReports, grade, exchangeRefusal, agreed}
 
 -- THE MESSAGE OF THE EXCHANGE
 
@@ -281,6 +281,19 @@ both-place some others i = let e : i + 1 - 1 ≡ i = omega arith in rw e
 pub times-reports : (received : ℕ → ℕ) (n : ℕ) → times (readReports received) 1 n ≡ times received 1 n
 unfolding times readReports
 times-reports received n = count-same (λ j. eqb (readReport (received j)) 1) (λ j. eqb (received j) 1) n (λ j l u. same-report (received j))
+
+-- "n - t for 2t + 1: with n = 6 they are 5 and 3." The theorem alone does not tell the two apart; a wall of six columns does: all agree and
+-- sent a first report, and columns 1 to k alone sent a second one
+abbrev gradeOfSix : ℕ → ℕ
+gradeOfSix k = grade 6 1 (λ j. true) (λ j. true) (λ j. cond (leb j k) 1 blank)
+
+pub three-reports : gradeOfSix 3 ≡ 2
+unfolding grade secondQuorum both readReports readReport times count faults
+three-reports = refl
+
+pub two-reports : gradeOfSix 2 ≡ 1
+unfolding grade secondQuorum both readReports readReport times count faults
+two-reports = refl
 
 -- BETWEEN SOUND COLUMNS
 

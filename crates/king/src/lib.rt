@@ -67,8 +67,8 @@ pub fn crowned(firm: bool, vote: u8, word: u16) -> u8
         return vote;
     }
     let bit = messages::read_bit(word);
-    if bit == Field::BLANK {
-        return 0;
+    if bit != Field::BLANK {
+        return bit as u8;
     }
-    bit as u8
+    0
 }

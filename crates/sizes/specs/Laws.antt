@@ -19,11 +19,6 @@ pub faults-le : (n : ℕ) → faults n ≤ n
 unfolding faults
 faults-le n = omega arith
 
--- nine of d are no more than n
-pub degree-le : (n : ℕ) → 9 * degree n ≤ n
-unfolding faults degree
-degree-le n = omega arith
-
 pub blocks-le : (n m : ℕ) → blocks n m ≤ m
 unfolding blocks
 blocks-le n m = go (eq-zero-or-pos m)
@@ -90,6 +85,11 @@ sized n m r =
       rounds-is = rounds-are n;
       line-is = refl;
     }
+
+-- in range or not, nine of d are no more than n
+pub degree-le : (n : ℕ) → 9 * degree n ≤ n
+unfolding faults degree
+degree-le n = omega arith
 
 -- THE VALUES OF A ROUND
 

@@ -47,7 +47,7 @@ add-same-values c =
 same-values-requires-2 : tie.Need-same-values-requires-2
 same-values-requires-2 c κs =
     let s = c .before .before .before .before .before .before .before in
-    (omega arith, s .pre .4, omega (arith, c .before .before .place .ensures, s .pre .5, row-fits (2 * s .args .b) (s .args .i) (s .args .n) (omega arith)))
+    (omega arith, omega (arith, s .pre .4), omega (arith, c .before .before .place .ensures, s .pre .5, row-fits (2 * s .args .b) (s .args .i) (s .args .n) (omega arith)))
 
 returns-4 : tie.Need-returns-4
 returns-4 c =

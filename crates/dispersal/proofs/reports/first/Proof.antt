@@ -1,10 +1,12 @@
 -- `reports::first` meets its contract.
-use mathlib.Core.Path.{_∙_}
+use Prim.Native.Nat.{_-_}
 use native.Mathlib.Omega.{arith}
 use borrow.Author.Tests.{le-leb, lt-leb}
 use borrow.Author.Needs.{needs}
+use Rattle.lists.specs.Lists.{count}
+use Rattle.sizes.specs.Sizes.{faults}
 use Rattle.sizes.specs.Laws.{faults-le}
-use Rattle.dispersal.specs.Dispersal.{firstQuorum, firstReport}
+use Rattle.dispersal.specs.Dispersal.{agrees, firstQuorum, firstReport}
 use Rattle.dispersal.specs.Laws.{both-self}
 use Rattle.dispersal.proofs.reports.first.Statement.{statement}
 use Rattle.dispersal.proofs.reports.first.Tie as tie
@@ -26,11 +28,13 @@ in-both-requires c κs = search needs
 
 returns : tie.Need-returns
 unfolding firstReport firstQuorum
-returns c = simp (rw (c .before .before .before .before .faults .ensures, c .before .in-both .ensures ∙ both-self _ _) at (le-leb _ _ (c .if1 .taken)))
+returns c = let a = c .before .before .before .before .before .args in
+    simp (le-leb (a .n - faults (a .n)) (count (agrees (a .t2)) (a .n)) (omega (arith, c .if1 .taken, c .before .before .before .before .faults .ensures, c .before .in-both .ensures, both-self (a .t2) (a .n))))
 
 returns-2 : tie.Need-returns-2
 unfolding firstReport firstQuorum
-returns-2 c = simp (rw (c .before .before .before .before .faults .ensures, c .before .in-both .ensures ∙ both-self _ _) at (lt-leb _ _ (c .if1 .left)))
+returns-2 c = let a = c .before .before .before .before .before .args in
+    simp (lt-leb (a .n - faults (a .n)) (count (agrees (a .t2)) (a .n)) (omega (arith, c .if1 .left, c .before .before .before .before .faults .ensures, c .before .in-both .ensures, both-self (a .t2) (a .n))))
 
 pub first-spec : {M : Type 1} → statement M
 first-spec =

@@ -14,7 +14,7 @@ fn protocol_of(kind: u8, poster: u8) -> Protocol {
 // Reads a sheet of the slice's length and prints its listing. A sheet that the input ends within is listed as far as it goes.
 fn list(protocol: Protocol, sheet: &mut [u8]) {
     let got = io::read_full(STDIN_FILENO, sheet);
-    let mut text = [0u8; 3200];
+    let mut text = [0u8; listing::MOST];
     let written = listing::write(protocol, &sheet[..got], &mut text);
     let shown = io::count(written as isize, &text);
     io::write_all(STDOUT_FILENO, &text[..shown]);

@@ -7,7 +7,8 @@ ghost use Prim.Native.Nat.{_+_, _*_, _≤_, _<_};
 ghost use lib.ListN.{length, drop};
 ghost use Rattle.lists.specs.Lists.{listOf, rowsOf};
 ghost use Rattle.sizes.specs.Sizes.{refusal as refusalOfSizes};
-ghost use Rattle.block.specs.Block.{part};
+ghost use Rattle.field.specs.Field.{element};
+ghost use Rattle.block.specs.Block.{part, value as valueOf};
 ghost use Rattle.messages.specs.Messages.{laid, unlessRefused};
 ghost use Rattle.codeword.specs.Codeword.{values as valuesOf, valuesFor, codewords as codewordsOf, codewordsRefusal, across, acrossRefusal, writtenAcross};
 ghost use Rattle.codeword.specs.Words.{valueIn, rowAt};
@@ -32,16 +33,33 @@ fn coefficients(bytes: &[u8; 32], from: usize) -> [u16; 4]
     ]
 }
 
+// The value at x of a polynomial of one to four coefficients. Their number is handed on as a literal: then the compiler writes the recursion out.
+fn sized_value(c: &[u16; 4], size: u8, x: Field) -> Field
+    requires { ⌜ (1 ≤ size) × (size ≤ 4) ⌝ }
+    ensures { λ r. ⌜ r ≡ element (valueOf (part (now (c .entry)) 0 size) (x .0)) ⌝ }
+{
+    if size == 1 {
+        return block::value(c, 1, x);
+    }
+    if size == 2 {
+        return block::value(c, 2, x);
+    }
+    if size == 3 {
+        return block::value(c, 3, x);
+    }
+    block::value(c, 4, x)
+}
+
 // The value of block k, of b blocks of `size` bytes, at the point x; blank past the blocks.
 fn value(b: usize, size: u8, bytes: &[u8; 32], x: u16, k: u8) -> u16
-    requires { ⌜ size ≤ 4 ⌝ }
+    requires { ⌜ (1 ≤ size) × (size ≤ 4) ⌝ }
     ensures { λ r. ⌜ r ≡ valueIn b size (now (bytes .entry)) x k ⌝ }
 {
     if b <= k as usize {
         return Field::BLANK;
     }
     let c = coefficients(bytes, (k as usize) * (size as usize));
-    let v = block::value(&c, size, Field(x));
+    let v = sized_value(&c, size, Field(x));
     v.0
 }
 
@@ -102,7 +120,7 @@ fn rows(b: usize, size: u8, bytes: &[u8; 32], all: &mut [u16])
     }
 }
 
-// The codewords of a record of m bytes. The size of a block is handed on as a literal, so that the machine does eight points at a time.
+// The codewords of a record of m bytes. The size of a block is handed on as a literal: then the machine does eight points at a time.
 fn fill(n: u8, m: u8, bytes: &[u8; 32], all: &mut [u16])
     requires { ⌜ (refusalOfSizes n m 1 ≡ 0) × (length (now all) ≡ 1024) ⌝ }
     ensures { λ _. ⌜ now (all .exit) ≡ codewordsOf n m (now (bytes .entry)) ⌝ }

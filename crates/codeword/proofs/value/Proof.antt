@@ -23,19 +23,19 @@ mul-coefficients c = record { fits = omega (arith, mul-le-mul {n₁ = c .before 
 coefficients-requires : tie.Need-coefficients-requires
 coefficients-requires c κs = omega (arith, mul-le-mul {n₁ = c .before .args .k} {m₁ = c .before .args .size} {n₂ = 255} {m₂ = 4} (omega arith) (omega arith))
 
-value-requires : tie.Need-value-requires
-value-requires c κs = search needs
+sized-value-requires : tie.Need-sized-value-requires
+sized-value-requires c κs = search needs
 
 returns-2 : tie.Need-returns-2
 unfolding valueIn
 returns-2 c =
     let s = c .before .before .before .before in
     let a = s .args in
-    ap (λ (v : Field). v .0) (c .value .ensures)
+    ap (λ (v : Field). v .0) (c .sized-value .ensures)
     ∙ ap (λ (cs : List ℕ). valueOf (part cs 0 (a .size)) (a .x)) (c .before .before .coefficients .ensures)
-    ∙ ap (λ (cs : List ℕ). valueOf cs (a .x)) (part-front (a .bytes .now) _ 4 (a .size) (s .pre))
+    ∙ ap (λ (cs : List ℕ). valueOf cs (a .x)) (part-front (a .bytes .now) _ 4 (a .size) (s .pre .1))
     ∙ simp (lt-ltb (a .k) (a .b) (omega (arith, c .before .before .before .if1 .left)))
 
 pub value-spec : {M : Type 1} → statement M
 value-spec =
-    tie.close (tie.spec returns mul-coefficients coefficients-requires value-requires returns-2)
+    tie.close (tie.spec returns mul-coefficients coefficients-requires sized-value-requires returns-2)

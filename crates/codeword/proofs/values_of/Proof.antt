@@ -37,7 +37,7 @@ cast-at c = omega arith
 value-requires : tie.Need-value-requires Inv-loop μ-loop
 value-requires c κs =
     let s = c .before .before .before .before in
-    omega (arith, c .before .before .degree .ensures, sized (s .args .n) (s .args .m) (accepted (s .args .n) (s .args .m) 1 (s .pre) .range) .degree-high)
+    (omega arith, omega (arith, c .before .before .degree .ensures, sized (s .args .n) (s .args .m) (accepted (s .args .n) (s .args .m) 1 (s .pre) .range) .degree-high))
 
 mul-all : tie.Need-mul-all Inv-loop μ-loop
 mul-all c = omega arith

@@ -20,8 +20,8 @@
  *
  * Stack. The most that a call takes, in bytes, on x86-64; measured, not proved (bench/run stack), and ./check measures again:
  *
- *     column_fresh   1024    column_speak   3584    column_listen   5632    column_outcome   1024
- *     posting_fresh  1536    posting_speak  3584    posting_listen  5632    posting_outcome  1024
+ *     column_fresh   1024    column_speak   3584    column_listen   6144    column_outcome   1024
+ *     posting_fresh  1536    posting_speak  3584    posting_listen  6144    posting_outcome  1024
  *     column_decode  2048    column_wall   90112    posting_wall   90112
  *
  * What the board sees to. All columns are made with the same n and m. The message to, or from, column j starts at place (j - 1) times the

@@ -6,7 +6,7 @@ ghost use Rattle.field.specs.Congruence.{_≋_};
 ghost use Rattle.field.specs.Field.{element, of, add, subtract, multiply, inverse, inverseTable};
 
 // The modulus where sums and products are made.
-const WIDE: u32 = 257;
+const WIDE: u32 = Field::MODULUS as u32;
 
 // The inverses of 1 to 256, at 0 to 255: number times entry leaves 1 modulo 257.
 const INVERSES: [u16; 256] = [

@@ -7,7 +7,7 @@ use locker_column::BLANK;
 /// Draws a sign around a point, as it is in the cells.
 type Sign = fn(&mut Svg, [usize; 2]);
 
-/// A heading, what stands under it, and signs with the height of each and its meaning in one or two lines.
+/// A heading, what stands under it, and signs with the height of each and its meaning in one to three lines.
 type Section = (&'static str, &'static str, &'static [(usize, Sign, &'static str)]);
 
 /// The cells of sound columns, without those of the king rule.
@@ -47,7 +47,7 @@ pub const UNSOUND: Section = (
         (20, |svg, [x, y]| line(svg, [x - 20, y - 6, 40], Manner::AsTheProgram, "", "1: 41"), "as the program would say"),
         (32, |svg, [x, y]| line(svg, [x - 20, y - 6, 40], Manner::Silent, "", "2: -"), "silent: all values blank, though\nthe program would have spoken"),
         (20, |svg, [x, y]| line(svg, [x - 20, y - 6, 40], Manner::Lie, "", "3: 42"), "a lie: anything else"),
-        (44, |_, _| {}, "It has no true record: lies are measured by the program\nin its place, with the sheet's record or the posted one."),
+        (56, |_, _| {}, "It has no true record: lies are measured\nby the program in its place, with the\nsheet's record or the posted one."),
     ],
 );
 

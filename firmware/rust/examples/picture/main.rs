@@ -114,7 +114,7 @@ impl Picture {
         let words = match sound {
             _ if self.poster.is_some() && !poster => [String::new(), String::new()],
             true => [format!("holds {record}"), String::new()],
-            false => ["lies measured by".into(), record],
+            false => ["lies measured".into(), format!("by {record}")],
         };
         for (k, words) in words.iter().enumerate() {
             svg.text("small soft", [52, top + 38 + 12 * k], words);

@@ -36,7 +36,7 @@ pub fn sound(sheet: &[u8], i: u8) -> bool
 }
 
 // 1 where column i is marked unsound, else 0.
-pub fn one_if_unsound(sheet: &[u8], i: u8) -> u8
+fn one_if_unsound(sheet: &[u8], i: u8) -> u8
     ensures { λ r. ⌜ r ≡ bit (unsoundOf (now (sheet .entry)) i) ⌝ }
 {
     if mark(sheet, i) == 1 {

@@ -48,7 +48,7 @@ pub fn sound_entry(protocol: Protocol, column: Column) -> Told
 
 // The refusal of a sheet, for a row of `rows` entries: 1, 2, 3 for the poster of a posting, 4, 5, 6 as document 01 numbers and orders them,
 // or 0 for none.
-pub fn refusal(protocol: Protocol, sheet: &[u8], rows: usize) -> u8
+fn refusal(protocol: Protocol, sheet: &[u8], rows: usize) -> u8
     ensures { λ r. ⌜ r ≡ refusalOf protocol (now (sheet .entry)) rows ⌝ }
 {
     let n = sheet::columns(sheet);

@@ -4,11 +4,12 @@
  * The columns of a wall agree on one record, though some of them may be unsound and tell every neighbour something else in every
  * round. A program makes a column once (column_fresh), then in each round lets it speak (column_speak), carries the messages, and
  * lets it listen (column_listen); after the last round it asks what the column ended on (column_outcome). In a posting one column
- * posts its record to all others; the calls are the same, posting_fresh to posting_outcome.
+ * posts its record to all others: there a column is made with posting_fresh. A state tells which protocol it runs, so all other calls are the
+ * same for every protocol.
  *
  * Link with libcolumn_bytes.a, which `rt staticlib column_bytes` writes to target/staticlib/, for x86-64 Linux; it needs memcpy and memset
  * of the program that it is linked with. Every function here is proved to do what is said of it for every input (crates/column_bytes);
- * what is not proved is this file, so firmware/run tests it.
+ * what is not proved is this file, so firmware/run tests it. Whole walls and the decoder, for tests and tools, are in wall.h.
  *
  * C11 or C++11, and newer.
  *
@@ -20,22 +21,21 @@
  *
  * Stack. The most that a call takes, in bytes, on x86-64; measured, not proved (bench/run stack), and ./check measures again:
  *
- *     column_fresh   1024    column_speak   3584    column_listen   6144    column_outcome   1024
- *     posting_fresh  1536    posting_speak  3584    posting_listen  6144    posting_outcome  1024
- *     column_decode  2048    column_wall   90112    posting_wall   90112
+ *     column_fresh   1024    posting_fresh  1024
+ *     column_speak   3584    column_listen  5632    column_outcome  1024
  *
- * What the board sees to. All columns are made with the same n and m. The message to, or from, column j starts at place (j - 1) times the
- * values of the round. A message that did not come, or came late, is COLUMN_BLANK in every value. A link tells who speaks and does not
- * alter what is said, and nobody speaks in a round before all have listened in the one before: without these nothing is claimed. How a value
- * lies on the wire is the board's affair; the examples send the low byte first.
+ * What the board sees to. All columns are made with the same n and m, and for the same protocol: in a posting with the same poster. The message
+ * to, or from, column j starts at place (j - 1) times the values of the round. A message that did not come, or came late, is COLUMN_BLANK in every
+ * value. A link tells who speaks and does not alter what is said, and nobody speaks in a round before all have listened in the one before: without
+ * these nothing is claimed. How a value lies on the wire is the board's affair; the examples send the low byte first.
  *
  * A board that loses power. The state is all that a column knows, so store it, and with it what column_speak wrote, before any of that is sent,
  * and store it again after column_listen. Started again from the last stored state, in the same round, a column has lost nothing: what it
  * sends once more is the same. Started from an older one it speaks a past round again; that, or a round missed, makes it an unsound column
  * until the run ends. A wall bears t of these, and nothing is claimed of what such a column ends on.
  *
- * Answers. Each call that makes, drives or asks a column, runs a wall or decodes answers 0, or the number of a refusal (enum
- * column_refusal). A refused call has written to no slice, the state included, and can be made again with better arguments.
+ * Answers. Each call that makes, drives or asks a column answers 0, or the number of a refusal (enum column_refusal). A refused call has
+ * written to no slice, the state included, and can be made again with better arguments.
  */
 #ifndef COLUMN_H
 #define COLUMN_H
@@ -53,18 +53,14 @@ extern "C" {
 /* What a value of a message is when nothing is said. */
 #define COLUMN_BLANK 65535
 
-/* The lengths of slices: a state, an entry, and what column_decode writes. */
-#define COLUMN_STATE_BYTES 170
+/* The lengths of slices: a state and an entry. */
+#define COLUMN_STATE_BYTES 171
 #define COLUMN_ENTRY_BYTES 36
-#define COLUMN_COEFFICIENTS 4
 
 /* The largest wall, the longest record, and the longest slice of messages that a round can have: the first of a posting, 31 times 32. */
 #define COLUMN_MOST_COLUMNS 31
 #define COLUMN_MOST_BYTES 32
 #define COLUMN_MOST_VALUES 992
-
-/* The rounds of a posting; column_rounds gives those of an agreement. */
-#define POSTING_ROUNDS 6
 
 /* A variable that is all bytes, as a slice: column_speak(COLUMN_BYTES(state), out, len). */
 #define COLUMN_BYTES(variable) ((uint8_t *)&(variable)), sizeof(variable)
@@ -72,7 +68,7 @@ extern "C" {
 /*
  * Why a call was refused. Where several reasons hold, the first of this order is told: 4 for the slice of a state that is not COLUMN_STATE_BYTES
  * long, since no state can be read from it; then a state's (11, 10, 7, 8, 9); then the input's (1, 2, 3, 4, 5, 6). A sheet has its own order,
- * see column_wall.
+ * see column_wall in wall.h.
  */
 enum column_refusal {
     COLUMN_DONE = 0,
@@ -86,7 +82,13 @@ enum column_refusal {
     COLUMN_MUST_SPEAK = 8,   /* asked to listen, but it has not spoken in this round */
     COLUMN_NOT_ENDED = 9,    /* asked for the outcome before the end */
     COLUMN_ENDED = 10,       /* asked to speak or listen after the end */
-    COLUMN_NO_STATE = 11     /* the 170 bytes are no state, or one of the other protocol, or a number in them is out of its range */
+    COLUMN_NO_STATE = 11     /* the 171 bytes are no state, or a number in them is out of its range */
+};
+
+/* What a column runs, by the number that its state has. */
+enum column_protocol {
+    COLUMN_AGREEMENT = 0, /* on one record */
+    COLUMN_POSTING = 1    /* one column posts its record to all others */
 };
 
 /* What a column is to do next. */
@@ -98,29 +100,30 @@ enum column_stage {
 };
 
 /*
- * A column's state, version 1: 170 bytes, no padding. A program needs none of these names to run a column: it lends the bytes and may
+ * A column's state, version 2: 171 bytes, no padding. A program needs none of these names to run a column: it lends the bytes and may
  * store them, send them and read them. A 16-bit number is two bytes, the low one first. Flags are 0 or 1, and lie by column number: the
- * flag of column j is at place j - 1.
+ * flag of column j is at place j - 1. Bytes of another version, of no protocol, or of an agreement with a poster are no state (11).
  */
 struct column_state {
-    uint8_t version;        /*   0: 1 */
-    uint8_t poster;         /*   1: the poster's number, 0 in an agreement */
-    uint8_t n;              /*   2: columns of the wall */
-    uint8_t m;              /*   3: bytes of a record */
-    uint8_t own;            /*   4: the column's own number */
-    uint8_t stage;          /*   5: enum column_stage */
-    uint8_t round;          /*   6: counted from 1; 0 after the end */
-    uint8_t grade;          /*   7: 0, 1 or 2, from the third round of dispersal on */
-    uint8_t vote;           /*   8: 0 or 1 */
-    uint8_t firm;           /*   9: a flag */
-    uint8_t proposal[2];    /*  10: 0, 1 or blank */
-    uint8_t record[32];     /*  12: zeros past m */
-    uint8_t agreements[31]; /*  44: flags */
-    uint8_t reports[31];    /*  75: flags */
-    uint8_t kept[32][2];    /* 106: a point or blank for each block */
+    uint8_t version;        /*   0: 2 */
+    uint8_t protocol;       /*   1: enum column_protocol */
+    uint8_t poster;         /*   2: the poster's number, 0 in an agreement */
+    uint8_t n;              /*   3: columns of the wall */
+    uint8_t m;              /*   4: bytes of a record */
+    uint8_t own;            /*   5: the column's own number */
+    uint8_t stage;          /*   6: enum column_stage */
+    uint8_t round;          /*   7: counted from 1; 0 after the end */
+    uint8_t grade;          /*   8: 0, 1 or 2, from the third round of dispersal on */
+    uint8_t vote;           /*   9: 0 or 1 */
+    uint8_t firm;           /*  10: a flag */
+    uint8_t proposal[2];    /*  11: 0, 1 or blank */
+    uint8_t record[32];     /*  13: zeros past m */
+    uint8_t agreements[31]; /*  45: flags */
+    uint8_t reports[31];    /*  76: flags */
+    uint8_t kept[32][2];    /* 107: a point or blank for each block */
 };
-COLUMN_ASSERT(sizeof(struct column_state) == COLUMN_STATE_BYTES, "a state has 170 bytes");
-COLUMN_ASSERT(offsetof(struct column_state, kept) == 106, "the kept points start at byte 106");
+COLUMN_ASSERT(sizeof(struct column_state) == COLUMN_STATE_BYTES, "a state has 171 bytes");
+COLUMN_ASSERT(offsetof(struct column_state, kept) == 107, "the kept points start at byte 107");
 
 /* What a column came to. Of an unsound column of a sheet only the mark is set. */
 struct column_entry {
@@ -132,27 +135,35 @@ struct column_entry {
 };
 COLUMN_ASSERT(sizeof(struct column_entry) == COLUMN_ENTRY_BYTES, "an entry has 36 bytes");
 
-/* AN AGREEMENT */
-
-/* The rounds of a wall of n columns: 3 t + 8, where t is (n - 1) / 3; 0 where n is not 4 to 31. */
-size_t column_rounds(uint32_t n);
+/* A RUN: its protocol is a number of enum column_protocol. */
 
 /*
- * The values of one message in a round, counted from 1. The slices of that round have n times as many. 0 where n is not 4 to 31, m not 1 to 32,
- * or the run has no such round.
+ * The rounds of a wall of n columns: of an agreement 3 t + 8, where t is (n - 1) / 3, of a posting 6. 0 where no protocol has this number, or
+ * n is not 4 to 31.
  */
-size_t column_values(uint32_t n, uint32_t m, uint32_t round);
+size_t column_rounds(uint32_t protocol, uint32_t n);
 
 /*
- * Makes column `own` of a wall of n columns with a record of m bytes, and writes its state.
+ * The values of one message in a round, counted from 1. The slices of that round have n times as many. 0 where no protocol has this number,
+ * n is not 4 to 31, m not 1 to 32, or the run has no such round.
+ */
+size_t column_values(uint32_t protocol, uint32_t n, uint32_t m, uint32_t round);
+
+/* A COLUMN */
+
+/*
+ * Makes column `own` of a wall of n columns that runs an agreement, with a record of m bytes, and writes its state.
  * record_len is m, state_len COLUMN_STATE_BYTES. Refused with 1, 2, 3, 4.
  */
 uint8_t column_fresh(uint32_t n, uint32_t m, uint32_t own, const uint8_t *record, size_t record_len, uint8_t *state, size_t state_len);
 
+/* The same of a posting by column `poster`; every column is handed a record, and only the poster's is kept. Refused with 3 for either number. */
+uint8_t posting_fresh(uint32_t n, uint32_t m, uint32_t own, uint32_t poster, const uint8_t *record, size_t record_len, uint8_t *state, size_t state_len);
+
 /*
- * Writes the messages of the round: one for each column, itself included, by column number, each column_values(n, m, round) values long.
- * out_len is n times that; state_len is COLUMN_STATE_BYTES. Refused with 4 for another state_len, then with 11, 10, 7, and with 4 for another
- * out_len.
+ * Writes the messages of the round: one for each column, itself included, by column number, each column_values(protocol, n, m, round) values
+ * long. out_len is n times that; state_len is COLUMN_STATE_BYTES. Refused with 4 for another state_len, then with 11, 10, 7, and with 4 for
+ * another out_len.
  */
 uint8_t column_speak(uint8_t *state, size_t state_len, uint16_t *out, size_t out_len);
 
@@ -168,38 +179,6 @@ uint8_t column_listen(uint8_t *state, size_t state_len, const uint16_t *inbox, s
  * state_len, then with 11, 9, and with 4 for another out_len.
  */
 uint8_t column_outcome(const uint8_t *state, size_t state_len, uint8_t *out, size_t out_len);
-
-/*
- * Runs a whole wall from a planner's sheet and writes a struct column_entry for each column, by column number. row_len is n times
- * COLUMN_ENTRY_BYTES. Refused with 4 for a sheet under two bytes, then with 1, 2, then with 4 for a sheet shorter than its marks and
- * records or a row of another length, then with 5, 6, and with 4 for a sheet of any other length.
- */
-uint8_t column_wall(const uint8_t *sheet, size_t sheet_len, uint8_t *row, size_t row_len);
-
-/* A POSTING: column `poster` posts its record to all others. A state of one protocol is no state (11) to the other's calls. */
-
-/* As column_values, with the rounds 1 to POSTING_ROUNDS. */
-size_t posting_values(uint32_t n, uint32_t m, uint32_t round);
-
-/* As column_fresh; every column is handed a record, and only the poster's is kept. */
-uint8_t posting_fresh(uint32_t n, uint32_t m, uint32_t own, uint32_t poster, const uint8_t *record, size_t record_len, uint8_t *state, size_t state_len);
-
-/* As column_speak, column_listen and column_outcome, with posting_values for column_values. */
-uint8_t posting_speak(uint8_t *state, size_t state_len, uint16_t *out, size_t out_len);
-uint8_t posting_listen(uint8_t *state, size_t state_len, const uint16_t *inbox, size_t inbox_len);
-uint8_t posting_outcome(const uint8_t *state, size_t state_len, uint8_t *out, size_t out_len);
-
-/* As column_wall, with the poster's number beside the sheet: refused with 3 too, after 1 and 2. */
-uint8_t posting_wall(uint32_t poster, const uint8_t *sheet, size_t sheet_len, uint8_t *row, size_t row_len);
-
-/* A BLOCK */
-
-/*
- * Of n points, by column number, the polynomial of degree at most d that meets at least n - t of them, t being (n - 1) / 3 and d being t / 3: four
- * coefficients, the constant term first and those above d zero. Where there is none, four blanks. A value above 256, blank among them, is no point,
- * and no polynomial meets it. points_len is n, out_len COLUMN_COEFFICIENTS. Refused with 1, 4.
- */
-uint8_t column_decode(uint32_t n, const uint16_t *points, size_t points_len, uint16_t *out, size_t out_len);
 
 #ifdef __cplusplus
 }

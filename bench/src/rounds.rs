@@ -1,7 +1,7 @@
 //! One call to speak and one to listen, in each kind of round.
 use crate::timing::{self, Row};
-use locker_column::{Agreement, Column as Proved, MOST_VALUES, Posting, Protocol as Calls};
-use reference::calls::{self, Of, STATE_BYTES};
+use locker_column::{Column as Proved, MOST_VALUES};
+use reference::calls::{self, STATE_BYTES};
 use reference::column::Column;
 use reference::sizes::{Kind, Protocol, Sizes};
 use std::hint::black_box;
@@ -67,15 +67,15 @@ fn side<'a>(moments: &'a [&Moment], states: &'a [State], mut call: impl FnMut(&M
 }
 
 /// The proved call, the reference's on the same bytes, and the reference's on its own struct.
-fn speak<'a, P: Calls>(of: Of, moments: &'a [&Moment], states: &'a [State]) -> Row<'a> {
+fn speak<'a>(moments: &'a [&Moment], states: &'a [State]) -> Row<'a> {
     let [mut first, mut second, mut third] = [[0; MOST_VALUES]; 3];
     let proved = side(moments, states, move |moment, state| {
-        let mut column = Proved::<P>::from_bytes(state);
+        let mut column = Proved::from_bytes(state);
         column.speak(black_box(&mut first[..moment.inbox.len()])).expect("it is to speak");
         black_box(column.bytes());
     });
     let on_bytes = side(moments, states, move |moment, mut state| {
-        assert_eq!(calls::speak(of, &mut state, black_box(&mut second[..moment.inbox.len()])), 0);
+        assert_eq!(calls::speak(&mut state, black_box(&mut second[..moment.inbox.len()])), 0);
         black_box(&state);
     });
     let on_struct = side(moments, states, move |moment, _| {
@@ -86,14 +86,14 @@ fn speak<'a, P: Calls>(of: Of, moments: &'a [&Moment], states: &'a [State]) -> R
     Row::new(format!("{}, speak", name(moments[0].kind)), moments.len(), vec![proved, on_bytes, on_struct])
 }
 
-fn listen<'a, P: Calls>(of: Of, moments: &'a [&Moment], states: &'a [State]) -> Row<'a> {
+fn listen<'a>(moments: &'a [&Moment], states: &'a [State]) -> Row<'a> {
     let proved = side(moments, states, |moment, state| {
-        let mut column = Proved::<P>::from_bytes(state);
+        let mut column = Proved::from_bytes(state);
         column.listen(black_box(&moment.inbox)).expect("it is to listen");
         black_box(column.bytes());
     });
     let on_bytes = side(moments, states, move |moment, mut state| {
-        assert_eq!(calls::listen(of, &mut state, black_box(&moment.inbox)), 0);
+        assert_eq!(calls::listen(&mut state, black_box(&moment.inbox)), 0);
         black_box(&state);
     });
     let on_struct = side(moments, states, |moment, _| {
@@ -115,10 +115,8 @@ pub fn table(n: u32, random: &Random) {
     let kinds: Vec<Vec<&Moment>> = KINDS.map(|kind| of_kind(kind).collect()).into();
     let before = |column: fn(&Moment) -> &Column| kinds.iter().map(|moments| moments.iter().map(|moment| calls::encode(column(moment))).collect()).collect();
     let (speaking, listening): (Vec<Vec<State>>, Vec<Vec<State>>) = (before(|moment| &moment.speaks), before(|moment| &moment.listens));
-    let rows = kinds.iter().zip(speaking.iter().zip(&listening)).flat_map(|(moments, (speaking, listening))| match moments[0].speaks.protocol {
-        Protocol::Posting(_) => [speak::<Posting>(Of::Postings, moments, speaking), listen::<Posting>(Of::Postings, moments, listening)],
-        Protocol::Agreement => [speak::<Agreement>(Of::Agreements, moments, speaking), listen::<Agreement>(Of::Agreements, moments, listening)],
-    });
+    let states = speaking.iter().zip(&listening);
+    let rows = kinds.iter().zip(states).flat_map(|(moments, (speaking, listening))| [speak(moments, speaking), listen(moments, listening)]);
     println!("\nn = {n}, 32 bytes:");
     timing::print(&["reference", "reference on its own struct"], "ns", 1.0, &timing::measured(rows.collect(), 100));
 }

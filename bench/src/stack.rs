@@ -1,8 +1,8 @@
 //! How deep the calls go: the bytes of stack that each takes, read off a stack that was painted before.
 use crate::decoding;
 use crate::rounds::{Moment, moments};
-use locker_column::{Agreement, Column as Proved, Entry, Posting, Protocol as Calls, archive};
-use reference::calls::{self, ENTRY_BYTES, Of, STATE_BYTES};
+use locker_column::{Column as Proved, Entry, archive};
+use reference::calls::{self, ENTRY_BYTES, STATE_BYTES};
 use reference::sizes::{Kind, Protocol, Sizes};
 use std::hint::black_box;
 use std::thread;
@@ -42,10 +42,9 @@ fn both<T: Sync, F: FnMut(), G: FnMut()>(cases: &[T], proved: impl Fn(&T) -> F +
     [deepest(cases, proved), deepest(cases, reference)]
 }
 
-/// The calls of a protocol, in the order in which a program makes them.
-fn columns<P: Calls>(of: Of, protocol: Protocol, random: &Random) -> [[usize; 2]; 4] {
-    let moments: Vec<Moment> = [4, 9, 31].into_iter().flat_map(|n| moments(protocol, &Sizes::by_formula(n, 32), random)).collect();
-    let made = both(
+/// The call that makes a column.
+fn fresh(protocol: Protocol) -> [usize; 2] {
+    both(
         &[4, 9, 31],
         |&n| {
             let (record, mut state) = ([1; 32], [0; STATE_BYTES]);
@@ -62,29 +61,38 @@ fn columns<P: Calls>(of: Of, protocol: Protocol, random: &Random) -> [[usize; 2]
             let (record, mut state) = ([1; 32], [0; STATE_BYTES]);
             move || assert_eq!(calls::fresh(protocol, n, 32, 1, &record, &mut state), 0)
         },
-    );
-    let spoke = both(
-        &moments,
+    )
+}
+
+fn speak(moments: &[Moment]) -> [usize; 2] {
+    both(
+        moments,
         |moment| {
-            let (mut column, mut out) = (Box::new(Proved::<P>::from_bytes(calls::encode(&moment.speaks))), vec![0; moment.inbox.len()]);
+            let (mut column, mut out) = (Box::new(Proved::from_bytes(calls::encode(&moment.speaks))), vec![0; moment.inbox.len()]);
             move || column.speak(&mut out).expect("it is to speak")
         },
         |moment| {
             let (mut state, mut out) = (calls::encode(&moment.speaks).to_vec(), vec![0; moment.inbox.len()]);
-            move || assert_eq!(calls::speak(of, &mut state, &mut out), 0)
+            move || assert_eq!(calls::speak(&mut state, &mut out), 0)
         },
-    );
-    let listened = both(
-        &moments,
+    )
+}
+
+fn listen(moments: &[Moment]) -> [usize; 2] {
+    both(
+        moments,
         |moment| {
-            let (mut column, inbox) = (Box::new(Proved::<P>::from_bytes(calls::encode(&moment.listens))), moment.inbox.clone());
+            let (mut column, inbox) = (Box::new(Proved::from_bytes(calls::encode(&moment.listens))), moment.inbox.clone());
             move || column.listen(&inbox).expect("it is to listen")
         },
         |moment| {
             let (mut state, inbox) = (calls::encode(&moment.listens).to_vec(), moment.inbox.clone());
-            move || assert_eq!(calls::listen(of, &mut state, &inbox), 0)
+            move || assert_eq!(calls::listen(&mut state, &inbox), 0)
         },
-    );
+    )
+}
+
+fn outcome(moments: &[Moment]) -> [usize; 2] {
     let ended: Vec<_> = moments
         .iter()
         .filter(|moment| moment.kind == Kind::Kept)
@@ -94,20 +102,19 @@ fn columns<P: Calls>(of: Of, protocol: Protocol, random: &Random) -> [[usize; 2]
             calls::encode(&column)
         })
         .collect();
-    let asked = both(
+    both(
         &ended,
         |&state| {
-            let column = Box::new(Proved::<P>::from_bytes(state));
+            let column = Box::new(Proved::from_bytes(state));
             move || {
                 black_box(column.outcome().expect("it has ended"));
             }
         },
         |&state| {
             let mut entry = [0; ENTRY_BYTES];
-            move || assert_eq!(calls::outcome(of, &state, &mut entry), 0)
+            move || assert_eq!(calls::outcome(&state, &mut entry), 0)
         },
-    );
-    [made, spoke, listened, asked]
+    )
 }
 
 /// Walls of 31 columns and 32 bytes.
@@ -150,15 +157,19 @@ fn decoder(random: &Random) -> [usize; 2] {
 }
 
 pub fn table(random: &Random) {
-    let agreement = columns::<Agreement>(Of::Agreements, Protocol::Agreement, random);
-    let posting = columns::<Posting>(Of::Postings, Protocol::Posting(1), random);
-    let names = ["fresh", "speak", "listen", "outcome"];
-    let of = |prefix: &str, depths: [[usize; 2]; 4]| names.map(|name| format!("{prefix}_{name}")).into_iter().zip(depths).collect::<Vec<_>>();
-    let mut rows = of("column", agreement);
-    rows.extend(of("posting", posting));
-    rows.push(("column_decode".into(), decoder(random)));
-    rows.push(("column_wall".into(), whole_walls(false, random)));
-    rows.push(("posting_wall".into(), whole_walls(true, random)));
+    // A call on a state is deepest in one of the protocols: it is made in both.
+    let runs = [4, 9, 31].into_iter().flat_map(|n| [(n, Protocol::Agreement), (n, Protocol::Posting(1))]);
+    let moments: Vec<Moment> = runs.flat_map(|(n, protocol)| moments(protocol, &Sizes::by_formula(n, 32), random)).collect();
+    let rows = [
+        ("column_fresh", fresh(Protocol::Agreement)),
+        ("posting_fresh", fresh(Protocol::Posting(1))),
+        ("column_speak", speak(&moments)),
+        ("column_listen", listen(&moments)),
+        ("column_outcome", outcome(&moments)),
+        ("column_decode", decoder(random)),
+        ("column_wall", whole_walls(false, random)),
+        ("posting_wall", whole_walls(true, random)),
+    ];
     println!("\n| deepest call | proved, bytes | reference, bytes | ratio |\n| --- | ---: | ---: | ---: |");
     for (name, [proved, reference]) in rows {
         println!("| `{name}` | {proved} | {reference} | {:.2} |", proved as f64 / reference as f64);

@@ -74,25 +74,24 @@ int main(int count, char **words)
     if (count != 5 && count != 6)
         stop("usage: column_process N M OWN RECORD [POSTER]");
     uint32_t n = number(words[1]), m = number(words[2]), own = number(words[3]);
-    int posting = count == 6;
+    uint32_t protocol = count == 6 ? COLUMN_POSTING : COLUMN_AGREEMENT;
     size_t len = bytes_of(words[4], record, sizeof record);
 
-    if (posting)
+    if (protocol == COLUMN_POSTING)
         must(posting_fresh(n, m, own, number(words[5]), record, len, COLUMN_BYTES(state)), "posting_fresh");
     else
         must(column_fresh(n, m, own, record, len, COLUMN_BYTES(state)), "column_fresh");
 
-    size_t rounds = posting ? POSTING_ROUNDS : column_rounds(n);
-    for (uint32_t round = 1; round <= rounds; round++) {
-        size_t all = n * (posting ? posting_values(n, m, round) : column_values(n, m, round));
+    for (uint32_t round = 1; round <= column_rounds(protocol, n); round++) {
+        size_t all = n * column_values(protocol, n, m, round);
 
-        must(posting ? posting_speak(COLUMN_BYTES(state), values, all) : column_speak(COLUMN_BYTES(state), values, all), "speak");
+        must(column_speak(COLUMN_BYTES(state), values, all), "column_speak");
         send(values, all);
         receive(values, all);
-        must(posting ? posting_listen(COLUMN_BYTES(state), values, all) : column_listen(COLUMN_BYTES(state), values, all), "listen");
+        must(column_listen(COLUMN_BYTES(state), values, all), "column_listen");
     }
 
-    must(posting ? posting_outcome(COLUMN_BYTES(state), COLUMN_BYTES(entry)) : column_outcome(COLUMN_BYTES(state), COLUMN_BYTES(entry)), "outcome");
+    must(column_outcome(COLUMN_BYTES(state), COLUMN_BYTES(entry)), "column_outcome");
     fwrite(&entry, sizeof entry, 1, stdout);
     return fflush(stdout) == 0 ? 0 : 1;
 }

@@ -38,8 +38,8 @@ int main(void)
     for (uint32_t i = 0; i < SOUND; i++)
         must(column_fresh(N, M, i + 1, &held[i], M, COLUMN_BYTES(columns[i])), "column_fresh");
 
-    for (uint32_t round = 1; round <= column_rounds(N); round++) {
-        size_t width = column_values(N, M, round);
+    for (uint32_t round = 1; round <= column_rounds(COLUMN_AGREEMENT, N); round++) {
+        size_t width = column_values(COLUMN_AGREEMENT, N, M, round);
 
         for (uint32_t i = 0; i < SOUND; i++)
             must(column_speak(COLUMN_BYTES(columns[i]), mail[i], N * width), "column_speak");
@@ -55,7 +55,7 @@ int main(void)
         }
     }
 
-    printf("wall %d %d t 1 d 0 blocks 1 rounds %zu\n", N, M, column_rounds(N));
+    printf("wall %d %d t 1 d 0 blocks 1 rounds %zu\n", N, M, column_rounds(COLUMN_AGREEMENT, N));
     for (uint32_t i = 0; i < SOUND; i++) {
         struct column_entry entry;
         must(column_outcome(COLUMN_BYTES(columns[i]), COLUMN_BYTES(entry)), "column_outcome");

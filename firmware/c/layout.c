@@ -40,8 +40,9 @@ static void flags(const char *name, const uint8_t *flag)
 static void print(const char *when)
 {
     printf("%s\n", when);
-    printf("  version %d poster %d n %d m %d own %d stage %d round %d grade %d vote %d firm %d proposal %u\n", state.version, state.poster, state.n,
-           state.m, state.own, state.stage, state.round, state.grade, state.vote, state.firm, word(state.proposal));
+    printf("  version %d protocol %d poster %d n %d m %d own %d stage %d round %d grade %d vote %d firm %d proposal %u\n", state.version,
+           state.protocol, state.poster, state.n, state.m, state.own, state.stage, state.round, state.grade, state.vote, state.firm,
+           word(state.proposal));
     printf("  record");
     for (int i = 0; i < 32; i++)
         printf(" %d", state.record[i]);
@@ -78,20 +79,20 @@ static size_t larger(size_t a, size_t b)
     return a < b ? b : a;
 }
 
-/* The longest slice of messages that any round of any wall has, and the last round of a posting that has messages. */
+/* The longest slice of messages that any round of any wall has, and that the protocols of the header are all that there are. */
 static void lengths(void)
 {
     size_t most = 0;
-    uint32_t last = 0;
-    for (uint32_t n = 4; n <= COLUMN_MOST_COLUMNS; n++)
-        for (uint32_t m = 1; m <= COLUMN_MOST_BYTES; m++)
-            for (uint32_t round = 1; round <= 255; round++) {
-                most = larger(most, n * larger(column_values(n, m, round), posting_values(n, m, round)));
-                if (posting_values(n, m, round) != 0 && round > last)
-                    last = round;
-            }
+    uint32_t protocols = 0;
+    for (uint32_t protocol = 0; protocol <= 255; protocol++) {
+        protocols += column_rounds(protocol, 4) != 0;
+        for (uint32_t n = 4; n <= COLUMN_MOST_COLUMNS; n++)
+            for (uint32_t m = 1; m <= COLUMN_MOST_BYTES; m++)
+                for (uint32_t round = 1; round <= 255; round++)
+                    most = larger(most, n * column_values(protocol, n, m, round));
+    }
     printf("longest slice %zu, in the header %d\n", most, COLUMN_MOST_VALUES);
-    printf("rounds of a posting %u, in the header %d\n", last, POSTING_ROUNDS);
+    printf("protocols %u, in the header %d\n", protocols, COLUMN_POSTING + 1);
 }
 
 int main(void)

@@ -2,15 +2,13 @@
  * Lists a posting wall by the run's lent row: an array of structs, one for each column, which the proved call fills. The sheet's bytes come from
  * standard input, the poster's number is the argument. A refused run must leave the row as it was.
  *
- * The call is for tests and tools: it is in libposting_run.a, which `rt staticlib posting_run` writes, and not in the board's archive.
+ * The call is for tests and tools: wall.h has it, and libwall_bytes.a, not the board's archive.
  */
 #include <stdio.h>
 #include <stdlib.h>
 #include <string.h>
 
-#include "column.h"
-
-uint8_t posting_rows(uint8_t poster, const uint8_t *sheet, size_t sheet_len, struct column_entry *row, size_t row_len);
+#include "wall.h"
 
 /* One byte more than the longest sheet has. */
 static uint8_t sheet[42566];

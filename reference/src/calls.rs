@@ -1,19 +1,12 @@
-//! The calls of include/column.h: a column's state is 170 bytes that the caller lends, a wall's entry 36.
+//! The calls of include/column.h and include/wall.h: a column's state is 171 bytes that the caller lends, a wall's entry 36.
 use crate::Refusal;
 use crate::column::{Column, Outcome, Stage};
 use crate::decoder;
 use crate::sizes::{BLANK, Protocol, Sizes};
 use crate::wall::{Entry, Sheet};
 
-pub const STATE_BYTES: usize = 170;
+pub const STATE_BYTES: usize = 171;
 pub const ENTRY_BYTES: usize = 36;
-
-/// The protocol that a state's bytes must be of.
-#[derive(Clone, Copy, PartialEq, Eq, Debug)]
-pub enum Of {
-    Agreements,
-    Postings,
-}
 
 /// 0, or the refusal's number.
 fn number(answer: Result<(), Refusal>) -> u8 {
@@ -28,30 +21,31 @@ pub fn encode(column: &Column) -> [u8; STATE_BYTES] {
         Stage::EndedOnNone => (2, 0),
         Stage::EndedOnRecord => (3, 0),
     };
-    let poster = match column.protocol {
-        Protocol::Agreement => 0,
-        Protocol::Posting(s) => s as u8,
+    let (protocol, poster) = match column.protocol {
+        Protocol::Agreement => (0, 0),
+        Protocol::Posting(s) => (1, s as u8),
     };
     let mut bytes = [0; STATE_BYTES];
-    bytes[..10].copy_from_slice(&[1, poster, column.n, column.m, column.own, stage, round, column.grade, column.vote, column.firm.into()]);
-    bytes[10..12].copy_from_slice(&column.proposal.to_le_bytes());
-    bytes[12..44].copy_from_slice(&column.record);
-    bytes[44..75].copy_from_slice(&column.agreements.map(u8::from));
-    bytes[75..106].copy_from_slice(&column.reports.map(u8::from));
-    for (bytes, point) in bytes[106..].chunks_exact_mut(2).zip(column.kept) {
+    bytes[..6].copy_from_slice(&[2, protocol, poster, column.n, column.m, column.own]);
+    bytes[6..11].copy_from_slice(&[stage, round, column.grade, column.vote, column.firm.into()]);
+    bytes[11..13].copy_from_slice(&column.proposal.to_le_bytes());
+    bytes[13..45].copy_from_slice(&column.record);
+    bytes[45..76].copy_from_slice(&column.agreements.map(u8::from));
+    bytes[76..107].copy_from_slice(&column.reports.map(u8::from));
+    for (bytes, point) in bytes[107..].chunks_exact_mut(2).zip(column.kept) {
         bytes.copy_from_slice(&point.to_le_bytes());
     }
     bytes
 }
 
-/// The state of a protocol that bytes are; refused with 4 for a slice of another length, then with 11.
-pub fn decode(of: Of, bytes: &[u8]) -> Result<Column, Refusal> {
+/// The state that bytes are; refused with 4 for a slice of another length, then with 11.
+pub fn decode(bytes: &[u8]) -> Result<Column, Refusal> {
     let no_state = Refusal(11);
     let bytes: &[u8; STATE_BYTES] = bytes.try_into().map_err(|_| Refusal(4))?;
-    let [1, poster, n, m, own, stage, round, grade, vote, firm, ..] = *bytes else { return Err(no_state) };
-    let protocol = match (of, poster) {
-        (Of::Agreements, 0) => Protocol::Agreement,
-        (Of::Postings, 1..) => Protocol::Posting(poster.into()),
+    let [2, protocol, poster, n, m, own, stage, round, grade, vote, firm, ..] = *bytes else { return Err(no_state) };
+    let protocol = match (protocol, poster) {
+        (0, 0) => Protocol::Agreement,
+        (1, _) => Protocol::Posting(poster.into()),
         _ => return Err(no_state),
     };
     let stage = match (stage, round) {
@@ -61,7 +55,7 @@ pub fn decode(of: Of, bytes: &[u8]) -> Result<Column, Refusal> {
         (3, 0) => Stage::EndedOnRecord,
         _ => return Err(no_state),
     };
-    let flags = &bytes[44..106];
+    let flags = &bytes[45..107];
     if firm > 1 || flags.iter().any(|&flag| flag > 1) {
         return Err(no_state);
     }
@@ -71,15 +65,15 @@ pub fn decode(of: Of, bytes: &[u8]) -> Result<Column, Refusal> {
         n,
         m,
         own,
-        record: std::array::from_fn(|i| bytes[12 + i]),
-        proposal: word(10),
+        record: std::array::from_fn(|i| bytes[13 + i]),
+        proposal: word(11),
         stage,
         agreements: std::array::from_fn(|j| flags[j] == 1),
         reports: std::array::from_fn(|j| flags[31 + j] == 1),
         grade,
         vote,
         firm: firm == 1,
-        kept: std::array::from_fn(|block| word(106 + 2 * block)),
+        kept: std::array::from_fn(|block| word(107 + 2 * block)),
     })
 }
 
@@ -95,14 +89,24 @@ fn of_length(slice: usize, length: usize) -> Result<(), Refusal> {
     if slice == length { Ok(()) } else { Err(Refusal(4)) }
 }
 
-/// The rounds of an agreement; 0 for an n that is no wall's.
-pub fn rounds(n: u32) -> usize {
-    Sizes::of(n, 1).map_or(0, |sizes| sizes.rounds(Protocol::Agreement))
+/// The protocol of a number. Who posts is the same to the rounds of a run and to their values.
+fn protocol(number: u32) -> Option<Protocol> {
+    match number {
+        0 => Some(Protocol::Agreement),
+        1 => Some(Protocol::Posting(1)),
+        _ => None,
+    }
 }
 
-/// The values of a message in a round; 0 where n or m is no wall's, or the run has no such round.
-pub fn values(protocol: Protocol, n: u32, m: u32, round: u32) -> usize {
-    let Ok(sizes) = Sizes::of(n, m) else { return 0 };
+/// The rounds of a run; 0 where no protocol has the number, or n is no wall's.
+pub fn rounds(number: u32, n: u32) -> usize {
+    let (Some(protocol), Ok(sizes)) = (protocol(number), Sizes::of(n, 1)) else { return 0 };
+    sizes.rounds(protocol)
+}
+
+/// The values of a message in a round; 0 where no protocol has the number, n or m is no wall's, or the run has no such round.
+pub fn values(number: u32, n: u32, m: u32, round: u32) -> usize {
+    let (Some(protocol), Ok(sizes)) = (protocol(number), Sizes::of(n, m)) else { return 0 };
     sizes.kind(protocol, round as usize).map_or(0, |kind| sizes.values(kind))
 }
 
@@ -114,24 +118,24 @@ pub fn fresh(protocol: Protocol, n: u32, m: u32, own: u32, record: &[u8], state:
     }))
 }
 
-pub fn speak(of: Of, state: &mut [u8], out: &mut [u16]) -> u8 {
-    on_state(of, state, |column| column.speak(out))
+pub fn speak(state: &mut [u8], out: &mut [u16]) -> u8 {
+    on_state(state, |column| column.speak(out))
 }
 
-pub fn listen(of: Of, state: &mut [u8], inbox: &[u16]) -> u8 {
-    on_state(of, state, |column| column.listen(inbox))
+pub fn listen(state: &mut [u8], inbox: &[u16]) -> u8 {
+    on_state(state, |column| column.listen(inbox))
 }
 
-fn on_state(of: Of, state: &mut [u8], call: impl FnOnce(&mut Column) -> Result<(), Refusal>) -> u8 {
-    number(decode(of, state).and_then(|mut column| {
+fn on_state(state: &mut [u8], call: impl FnOnce(&mut Column) -> Result<(), Refusal>) -> u8 {
+    number(decode(state).and_then(|mut column| {
         call(&mut column)?;
         state.copy_from_slice(&encode(&column));
         Ok(())
     }))
 }
 
-pub fn outcome(of: Of, state: &[u8], out: &mut [u8]) -> u8 {
-    number(decode(of, state).and_then(|column| {
+pub fn outcome(state: &[u8], out: &mut [u8]) -> u8 {
+    number(decode(state).and_then(|column| {
         let Outcome { grade, vote, record } = column.outcome()?;
         of_length(out.len(), ENTRY_BYTES)?;
         out.copy_from_slice(&entry_bytes(&Entry { mark: 0, grade, vote, record }));

@@ -1,5 +1,5 @@
 //! How cases are stored: sheets with their protocol for the program `wall_corpus`, single calls for the program `call_corpus`. Numbers lie low byte first.
-use crate::calls::{self, Of};
+use crate::calls;
 use crate::listing::listing;
 use crate::sizes::Protocol;
 use std::io::{self, Read, Write};
@@ -62,7 +62,7 @@ impl WallCase {
 /// The calls, each by its name once: a stored case has its place in this list.
 macro_rules! calls {
     ($($name:ident)*) => {
-        /// A call of include/column.h.
+        /// A call of include/column.h or include/wall.h.
         #[derive(Clone, Copy, PartialEq, Eq, Hash, Debug)]
         #[repr(u8)]
         pub enum Call { $($name),* }
@@ -72,14 +72,13 @@ macro_rules! calls {
 }
 
 calls! {
-    ColumnRounds ColumnValues PostingValues
-    ColumnFresh ColumnSpeak ColumnListen ColumnOutcome ColumnWall
-    PostingFresh PostingSpeak PostingListen PostingOutcome PostingWall
-    ColumnDecode
+    ColumnRounds ColumnValues
+    ColumnFresh PostingFresh ColumnSpeak ColumnListen ColumnOutcome
+    ColumnWall PostingWall ColumnDecode
 }
 
-/// A single call with everything that it is handed: up to four numbers (n, m, own or round, poster), a slice that is only read, one of bytes that may be
-/// written, two of values. A call takes those of them that include/column.h names.
+/// A single call with everything that it is handed: up to four numbers (n, m, own or round, poster or protocol), a slice that is only read, one of bytes that
+/// may be written, two of values. A call takes those of them that its header names.
 #[derive(Clone, PartialEq, Eq, Hash, Debug)]
 pub struct CallCase {
     pub call: Call,
@@ -117,22 +116,18 @@ impl CallCase {
     /// Makes the call; the slices are then as it leaves them.
     pub fn play(&mut self) -> usize {
         use Protocol::{Agreement, Posting};
-        let [n, m, x, poster] = self.numbers;
+        let [n, m, x, y] = self.numbers;
         let (a, b, v, w) = (&self.a, &mut self.b, &mut self.v, &mut self.w);
         let refusal = match self.call {
-            Call::ColumnRounds => return calls::rounds(n),
-            Call::ColumnValues => return calls::values(Agreement, n, m, x),
-            Call::PostingValues => return calls::values(Posting(1), n, m, x),
+            Call::ColumnRounds => return calls::rounds(y, n),
+            Call::ColumnValues => return calls::values(y, n, m, x),
             Call::ColumnFresh => calls::fresh(Agreement, n, m, x, a, b),
-            Call::ColumnSpeak => calls::speak(Of::Agreements, b, v),
-            Call::ColumnListen => calls::listen(Of::Agreements, b, v),
-            Call::ColumnOutcome => calls::outcome(Of::Agreements, a, b),
+            Call::PostingFresh => calls::fresh(Posting(y), n, m, x, a, b),
+            Call::ColumnSpeak => calls::speak(b, v),
+            Call::ColumnListen => calls::listen(b, v),
+            Call::ColumnOutcome => calls::outcome(a, b),
             Call::ColumnWall => calls::wall(Agreement, a, b),
-            Call::PostingFresh => calls::fresh(Posting(poster), n, m, x, a, b),
-            Call::PostingSpeak => calls::speak(Of::Postings, b, v),
-            Call::PostingListen => calls::listen(Of::Postings, b, v),
-            Call::PostingOutcome => calls::outcome(Of::Postings, a, b),
-            Call::PostingWall => calls::wall(Posting(poster), a, b),
+            Call::PostingWall => calls::wall(Posting(y), a, b),
             Call::ColumnDecode => calls::decode_block(n, v, w),
         };
         refusal.into()

@@ -4,7 +4,7 @@
 //!
 //! A section of document 01 is a module: `sizes` and `field` ("Sizes of a wall"), `decoder` (what the last round asks for), `column` ("Rounds", "Posting
 //! by one column", "Refusals from the state"), `wall` and `listing` ("A whole wall", "Refusals from the input"). `calls` puts the same behind the calls
-//! of include/column.h, on bytes, and `cases` is how a case is stored.
+//! of include/column.h and include/wall.h, on bytes, and `cases` is how a case is stored.
 pub mod calls;
 pub mod cases;
 pub mod column;

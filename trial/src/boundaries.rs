@@ -11,12 +11,25 @@ use reference::column::{Column, Stage};
 use reference::sizes::{Protocol, Sizes};
 
 pub fn all(random: &Random) -> Vec<CallCase> {
-    let mut cases = [fresh(random), decode(random)].concat();
+    let mut cases = [runs(), fresh(random), decode(random)].concat();
     for (n, m, posting) in [(4, 1), (7, 3), (10, 3)].into_iter().flat_map(|(n, m)| [(n, m, false), (n, m, true)]) {
         let s = Sizes::of(n, m).expect("a wall's sizes");
         cases.extend(lengths(&s, posting, random));
         cases.extend(stages(&s, posting, random));
         cases.extend(parts(&s, posting, random));
+    }
+    cases
+}
+
+/// The rounds of a run and their values, each number at its ends and past them, some of which are in range if they are cut to a byte.
+fn runs() -> Vec<CallCase> {
+    let mut cases = vec![];
+    for (protocol, n) in [0, 1, 2, 256, 257].into_iter().flat_map(|protocol| [3, 4, 31, 32, 260].map(|n| (protocol, n))) {
+        let case = |call, m, round| CallCase { numbers: [n, m, round, protocol], ..CallCase::new(call) };
+        let last = Sizes::by_formula(n, 1).rounds(if protocol == 0 { Protocol::Agreement } else { Protocol::Posting(1) }) as u32;
+        cases.push(case(Call::ColumnRounds, 0, 0));
+        cases.extend([0, 33, 257].map(|m| case(Call::ColumnValues, m, 1)));
+        cases.extend([0, 1, 2, last - 1, last, last + 1, 257].map(|round| case(Call::ColumnValues, 32, round)));
     }
     cases
 }
@@ -78,7 +91,7 @@ fn parts(s: &Sizes, posting: bool, random: &Random) -> Vec<CallCase> {
 fn every_call(column: &Column, bytes: Vec<u8>, random: &Random) -> Vec<CallCase> {
     let (_, right) = round(column);
     let spoken = [(false, 0), (false, right), (true, 0), (true, right)].map(|(listens, len)| on_state(listens, column, bytes.clone(), len, random));
-    let told = [0, ENTRY_BYTES - 1, ENTRY_BYTES, ENTRY_BYTES + 1].map(|len| asked(column, bytes.clone(), len, random));
+    let told = [0, ENTRY_BYTES - 1, ENTRY_BYTES, ENTRY_BYTES + 1].map(|len| asked(bytes.clone(), len, random));
     spoken.into_iter().chain(told).collect()
 }
 
@@ -91,7 +104,7 @@ fn fresh(random: &Random) -> Vec<CallCase> {
         case.numbers = [pick(0, &[4, 31], &[3, 32, 260]), pick(1, &[1, 32], &[0, 33, 257]), pick(2, &[1, 4], &[0, 32, 257]), pick(3, &[1, 4], &[0, 32, 257])];
         let m = case.numbers[1].min(40);
         case.a = junk(pick(4, &[m], &[m + 1, m.saturating_sub(1), 0]) as usize, random);
-        case.b = junk(pick(5, &[STATE_BYTES as u32], &[0, 169, 171]) as usize, random);
+        case.b = junk(pick(5, &[STATE_BYTES as u32], &[0, STATE_BYTES as u32 - 1, STATE_BYTES as u32 + 1]) as usize, random);
         cases.push(case);
     }
     cases

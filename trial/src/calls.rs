@@ -41,8 +41,9 @@ fn edge(low: u32, high: u32, random: &Random) -> u32 {
 
 /// Rounds and values: numbers of any size.
 fn lengths(random: &Random) -> CallCase {
-    let mut case = CallCase::new(random.pick(&[Call::ColumnRounds, Call::ColumnValues, Call::PostingValues]));
-    case.numbers = [edge(4, 31, random), edge(1, 32, random), edge(1, 38, random), 0];
+    let mut case = CallCase::new(random.pick(&[Call::ColumnRounds, Call::ColumnValues, Call::ColumnValues]));
+    let protocol = random.pick(&[0, 0, 0, 1, 1, 1, 2, 255, 256, 257, u32::MAX]);
+    case.numbers = [edge(4, 31, random), edge(1, 32, random), edge(1, 38, random), protocol];
     case
 }
 
@@ -81,12 +82,7 @@ fn in_round(most: usize, listens: bool, random: &Random) -> CallCase {
 
 /// The call to speak or to listen on a state's bytes, with a slice of so many values: what the column may hear in its round, or anything.
 pub fn on_state(listens: bool, column: &Column, bytes: Vec<u8>, len: usize, random: &Random) -> CallCase {
-    let mut case = CallCase::new(match (column.protocol, listens) {
-        (Protocol::Agreement, false) => Call::ColumnSpeak,
-        (Protocol::Agreement, true) => Call::ColumnListen,
-        (Protocol::Posting(_), false) => Call::PostingSpeak,
-        (Protocol::Posting(_), true) => Call::PostingListen,
-    });
+    let mut case = CallCase::new(if listens { Call::ColumnListen } else { Call::ColumnSpeak });
     case.b = bytes;
     if listens {
         case.v = inbox(column, round(column).0, random);
@@ -100,12 +96,12 @@ fn outcome(most: usize, random: &Random) -> CallCase {
     if random.chance(80) {
         column.stage = random.pick(&[Stage::EndedOnNone, Stage::EndedOnRecord]);
     }
-    asked(&column, state_bytes(&column, random), length(ENTRY_BYTES, 1, random), random)
+    asked(state_bytes(&column, random), length(ENTRY_BYTES, 1, random), random)
 }
 
 /// The call for the outcome on a state's bytes, with a slice of so many bytes for it.
-pub fn asked(column: &Column, bytes: Vec<u8>, len: usize, random: &Random) -> CallCase {
-    let mut case = CallCase::new(if column.protocol == Protocol::Agreement { Call::ColumnOutcome } else { Call::PostingOutcome });
+pub fn asked(bytes: Vec<u8>, len: usize, random: &Random) -> CallCase {
+    let mut case = CallCase::new(Call::ColumnOutcome);
     (case.a, case.b) = (bytes, junk(len, random));
     case
 }

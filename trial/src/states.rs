@@ -1,7 +1,7 @@
 //! States of a column: any round, any values in their ranges, and those that are not.
 use crate::random::Random;
 use crate::records;
-use reference::calls::encode;
+use reference::calls::{STATE_BYTES, encode};
 use reference::column::{Column, Stage};
 use reference::sizes::{BLANK, Kind, Protocol, Sizes};
 
@@ -129,18 +129,19 @@ fn past<T>(array: &mut [T], used: usize, value: T, random: &Random) {
 }
 
 /// In how many ways bytes are made no state.
-pub const DAMAGES: usize = 8;
+pub const DAMAGES: usize = 9;
 
-/// Bytes that are no state any more, or one of the other protocol.
+/// Bytes that are no state any more, or another one: also the other protocol without its poster, a poster in an agreement, none in a posting.
 pub fn damage(way: usize, bytes: &mut Vec<u8>, random: &Random) {
     match way {
-        0 => bytes[0] = random.pick(&[0, 2, 255]),
-        1 => bytes[1] = random.pick(&[0, 1, 2]),
-        2 => bytes[5] = random.pick(&[0, 2, 3, 4, 255]),
-        3 => bytes[6] = random.pick(&[0, 1, 255]),
-        4 => bytes[9] = 2,
-        5 => bytes[random.between(44, 105)] = random.pick(&[2, 255]),
-        6 => bytes.truncate(random.pick(&[0, 1, 169])),
+        0 => bytes[0] = random.pick(&[0, 1, 255]),
+        1 => bytes[1] = random.pick(&[1 - bytes[1], 2, 255]),
+        2 => bytes[2] = random.pick(&[0, 1, 2]),
+        3 => bytes[6] = random.pick(&[0, 2, 3, 4, 255]),
+        4 => bytes[7] = random.pick(&[0, 1, 255]),
+        5 => bytes[10] = 2,
+        6 => bytes[random.between(45, 106)] = random.pick(&[2, 255]),
+        7 => bytes.truncate(random.pick(&[0, 1, STATE_BYTES - 1])),
         _ => bytes.push(0),
     }
 }

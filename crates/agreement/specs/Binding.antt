@@ -3,7 +3,7 @@ use mathlib.Core.Path.{_≡_, refl, sym, ap, _∙_}
 use mathlib.Core.Bool.{Bool, true, false, cond}
 use mathlib.Core.List.{List, []}
 use mathlib.Core.Option.{Option, none, some}
-use Prim.Native.Nat.{ℕ, zero, suc, _≤_, _<_}
+use Prim.Native.Nat.{ℕ, _≤_, _<_}
 use native.Mathlib.Omega.{arith}
 use borrow.Author.Tests.{eqb-true, eq-eqb, eqb-false}
 use lib.Dec.{T, eqb}
@@ -13,9 +13,8 @@ use Rattle.lists.specs.Rows.{inRow-rowsOf}
 use Rattle.lists.specs.Tests.{is-true}
 use Rattle.field.specs.Field.{blank}
 use Rattle.block.specs.Block.{part}
-use Rattle.sizes.specs.declared.Protocol.{Protocol}
-use Rattle.sizes.specs.declared.Protocol.the-variants.{Posting}
-use Rattle.sizes.specs.Sizes.{roundsIn, valuesIn, postingValues}
+use Rattle.protocols.specs.declared.Protocol.{Protocol}
+use Rattle.protocols.specs.declared.Protocol.the-variants.{Posting}
 use Rattle.messages.specs.Messages.{said}
 use Rattle.messages.specs.Wall.{Sound, Delivered}
 use Rattle.codeword.specs.Codeword.{Held}
@@ -23,15 +22,17 @@ use Rattle.codeword.specs.Places.{from-places}
 use Rattle.dispersal.specs.Run.{Graded}
 use Rattle.dissemination.specs.Dissemination.{spoken}
 use Rattle.agreement.specs.declared.Column.{Column}
-use Rattle.agreement.specs.declared.Kind.the-variants.{Post}
-use Rattle.agreement.specs.Column.{freshColumn, freshIn, fits}
+use Rattle.protocols.specs.declared.Kind.the-variants.{Post}
+use Rattle.protocols.specs.Protocols.{width, kinds, roundsIn, kindIn, beside, posts}
+use Rattle.protocols.specs.Laws.{rounds-posting}
+use Rattle.agreement.specs.Column.{freshVote, brought, freshColumn, fits}
 use Rattle.agreement.specs.Parts.{withStage, withBytes, withAgreements, withReports, withGrade, withVote, withKept}
 use Rattle.agreement.specs.Post.{postedBy, takenRecord, posted}
-use Rattle.agreement.specs.Rounds.{postingKind, kindIn, voteIn, voteAfter, voting, recast, message, endsOn, hears}
-use Rattle.agreement.specs.Calls.{inState, whenAsked, outcomeRefusal, ending, replyOf, outcome, gradeIn}
-use Rattle.agreement.specs.Gradecast.{Gradecast}
-use Rattle.agreement.specs.Course.{course}
-use Rattle.agreement.specs.Courses.{Courses, state as stateOf, sent}
+use Rattle.agreement.specs.Rounds.{voteIn, voteAfter, votesOne, message, outcomeOf, endsOn, hears}
+use Rattle.agreement.specs.Calls.{inState, whenAsked, outcomeRefusal, ending, replyOf, outcome, gradeIn, gradeShown}
+use Rattle.machine.specs.Gradecast.{Gradecast}
+use Rattle.agreement.specs.Course.{course, listening}
+use Rattle.agreement.specs.Courses.{Courses, state as stateOf, is, sent}
 use Rattle.agreement.specs.Dispersal as D
 use Rattle.agreement.specs.Dispersal.{Disperses}
 use Rattle.agreement.specs.Dissemination as E
@@ -41,13 +42,13 @@ use Rattle.agreement.specs.Taken.{taken-held, taken-sent}
 
 -- THE ROUNDS: after the poster's come those of dispersal, then those of dissemination
 
-disperses : (s n m : ℕ) → Disperses (Posting s) n m 1
-unfolding roundsIn valuesIn postingValues kindIn postingKind
-disperses s n m = record { many = omega arith; kind₁ = refl; kind₂ = refl; kind₃ = refl; width₁ = refl; width₂ = refl; width₃ = refl }
+disperses : (s n : ℕ) → Disperses (Posting s) n 1
+unfolding kindIn kinds
+disperses s n = record { many = omega (arith, rounds-posting s n); kind₁ = refl; kind₂ = refl; kind₃ = refl }
 
-pub disseminates : (s n m : ℕ) → Disseminates (Posting s) n m 4
-unfolding roundsIn valuesIn postingValues kindIn postingKind
-disseminates s n m = record { last = refl; kind₁ = refl; kind₂ = refl; width₁ = refl; width₂ = refl }
+pub disseminates : (s n : ℕ) → Disseminates (Posting s) n 4
+unfolding kindIn kinds
+disseminates s n = record { last = rounds-posting s n; kind₁ = refl; kind₂ = refl }
 
 -- THE OUTCOME'S GRADE, from the dispersal grade and what decoding gave
 
@@ -59,10 +60,12 @@ pub outGrade : ℕ → Option (List ℕ) → ℕ
 outGrade g o = cond (eqb g 2) 2 (ifRecord o)
 
 -- it is what a column that ended answers
-pub ended-grade : (p : Protocol) (c : Column) (o : Option (List ℕ)) → T (fits p (endsOn o c)) → gradeIn (endsOn o c .grade) (outcome p (endsOn o c) .reply) ≡ outGrade (c .grade) o
-unfolding outcome replyOf outcomeRefusal inState whenAsked ending gradeIn outGrade ifRecord endsOn withStage withBytes
-ended-grade p c none h = rw (is-true (fits p (endsOn none c)) h) refl
-ended-grade p c (some r) h = rw (is-true (fits p (endsOn (some r) c)) h) refl
+pub ended-grade : (s : ℕ) (c : Column) (o : Option (List ℕ)) → c .protocol ≡ Posting s → T (fits (endsOn o c)) → outcome (endsOn o c) .grade ≡ outGrade (c .grade) o
+unfolding outcome replyOf outcomeRefusal inState whenAsked ending gradeShown gradeIn outGrade ifRecord endsOn withStage withBytes posts
+ended-grade s c none e h =
+    ap (λ (p : Protocol). gradeShown p (c .grade) (replyOf (endsOn none c))) e ∙ rw (is-true (fits (endsOn none c)) h) refl
+ended-grade s c (some r) e h =
+    ap (λ (p : Protocol). gradeShown p (c .grade) (replyOf (endsOn (some r) c))) e ∙ rw (is-true (fits (endsOn (some r) c)) h) refl
 
 -- grade 2 is dispersal's; else it is 1 with a record, 0 without
 record Graded-as (g x out : ℕ) : Type 0 where
@@ -86,10 +89,16 @@ graded-as g o = go (ifRecord o) (one-at-most o) (eqb g 2) refl
     go x l false e = record { small = omega arith; above = omega arith; two-is = λ h. absurd (omega arith); two-out = λ h. absurd (eqb-false g 2 e h); else-is = λ no. refl }
 
 -- the vote is 1 from first to last
-pub vote-lasts : (s n m own : ℕ) (bytes : List ℕ) (inbox : ℕ → List ℕ) (q : ℕ) → course (Posting s) n m own bytes inbox q .vote ≡ 1
-unfolding course freshIn recast voteAfter withVote
-vote-lasts s n m own bytes inbox zero = refl
-vote-lasts s n m own bytes inbox (suc q) = vote-lasts s n m own bytes inbox q
+ended-vote : (o : Option (List ℕ)) (c : Column) → endsOn o c .vote ≡ c .vote
+unfolding endsOn withStage withBytes
+ended-vote none c = refl
+ended-vote (some r) c = refl
+
+pub vote-lasts : (s n m own : ℕ) (bytes : List ℕ) (inbox : ℕ → List ℕ) → course (Posting s) n m own bytes inbox (roundsIn (Posting s) n) .vote ≡ 1
+unfolding course kindIn kinds freshColumn freshVote voteAfter hears withStage withBytes withAgreements withReports withGrade withVote withKept posts
+vote-lasts s n m own bytes inbox =
+    ap (λ (q : ℕ). course (Posting s) n m own bytes inbox q .vote) (rounds-posting s n)
+    ∙ ended-vote (outcomeOf (listening (Posting s) n m own bytes inbox 5) (inbox 6)) (listening (Posting s) n m own bytes inbox 5)
 
 -- THE COURSES OF A POSTING
 
@@ -107,12 +116,12 @@ module _ {s n m : ℕ} {H : ℕ → Bool} {held : ℕ → List ℕ} {inbox : ℕ
   took-first i = refl
 
   pub took-last : (i : ℕ) → state i 4 .bytes ≡ took i
-  unfolding took course kindIn postingKind hears voting recast withStage withAgreements withReports withGrade withVote
+  unfolding took course kindIn kinds hears withStage withAgreements withReports withGrade withVote
   took-last i = refl
 
   -- the poster its own; every other column what it heard of the poster
   took-is : (i : ℕ) → took i ≡ cond (eqb i s) (part (held i) 0 32) (takenRecord m (λ k. inRow m (inbox i 1) s k blank))
-  unfolding took course freshIn freshColumn kindIn postingKind hears voting recast withStage withBytes withVote posted postedBy
+  unfolding took course freshColumn brought kindIn kinds hears withStage withBytes posted postedBy posts beside
   took-is i = go (eqb i s) refl
     where
       go : (b : Bool) → eqb i s ≡ b
@@ -129,11 +138,11 @@ module _ {s n m : ℕ} {H : ℕ → Bool} {held : ℕ → List ℕ} {inbox : ℕ
 
   -- a sound poster's record is what every sound column takes
   posted-to : Delivered n H m (λ j. rowsOf (λ i. said (spoken (eqb j s) (state j 0 .bytes))) m n) (λ i. inbox i 1)
-  unfolding roundsIn valuesIn postingValues kindIn postingKind course freshIn freshColumn message voting withVote
-  posted-to = sent C 0 m (Post s) (λ j i. spoken (eqb j s) (state j 0 .bytes)) (omega arith) refl refl (λ j i sj. refl)
+  unfolding kindIn kinds width course freshColumn message
+  posted-to = sent C 0 (Post s) (λ j i. spoken (eqb j s) (state j 0 .bytes)) (omega (arith, rounds-posting s n)) refl (λ j i sj. refl)
 
   poster-holds : state s 0 .bytes ≡ part (held s) 0 32
-  unfolding course freshIn freshColumn withVote
+  unfolding course freshColumn brought posts beside
   poster-holds = rw (eq-eqb s s refl) refl
 
   heard-poster : (i k : ℕ) → Sound n H i → Sound n H s → (s ≡ i → ⊥) → k < m → inRow m (inbox i 1) s k blank ≡ getD (part (held s) 0 32) k blank
@@ -154,21 +163,22 @@ module _ {s n m : ℕ} {H : ℕ → Bool} {held : ℕ → List ℕ} {inbox : ℕ
   g i = state i 4 .grade
 
   abbrev pub decides : ℕ → Option (List ℕ)
-  decides = E.decides C 4 (disseminates s n m) took took-last
+  decides = E.decides C 4 (disseminates s n) took took-last
 
   -- Theorem 3.3 of the records that the columns took
   graded : Graded n H took g
-  graded = D.course-graded C 1 (disperses s n m) took took-first took-held
+  graded = D.course-graded C 1 (disperses s n) took took-first took-held
 
   -- the grade lasts
   pub grade-stays : (i : ℕ) → state i 5 .grade ≡ g i
-  unfolding course kindIn postingKind hears voting recast withStage withKept withVote
+  unfolding course kindIn kinds hears withStage withKept
   grade-stays i = refl
 
   -- a sound grade 2: all end on its record
   two-decides : (c : ℕ) → Sound n H c → g c ≡ 2 → (i : ℕ) → Sound n H i → decides i ≡ some (took c)
-  unfolding voteIn
-  two-decides c sc two = E.grade-two-decides C 4 (disseminates s n m) took took-last (λ i si. refl) g (λ i. refl) graded c sc two (took-held c sc)
+  unfolding votesOne voteIn posts
+  two-decides c sc two =
+      E.grade-two-decides C 4 (disseminates s n) took took-last (λ i si. ap (λ (p : Protocol). eqb (voteIn p (state i 4 .vote)) 1) (is C i 4 .protocol-is)) g (λ i. refl) graded c sc two (took-held c sc)
 
   -- what column i outputs
   abbrev pub grades : ℕ → ℕ

@@ -1,4 +1,4 @@
--- The definitions of the calls, in an agreement and in a posting: for every input the refusal, the state after the call and the lent slice
+-- The definitions of the calls, in every protocol: for every input the refusal, the state after the call and the lent slice
 -- after it. Document 01, "Refusals from the input" and "Refusals from the state".
 use mathlib.Core.Bool.{cond}
 use mathlib.Core.List.{List, []}
@@ -6,8 +6,10 @@ use mathlib.Core.Option.{Option, none, some}
 use Prim.Native.Nat.{ℕ}
 use lib.Dec.{eqb}
 use lib.ListN.{length, take, replicate}
-use Rattle.sizes.specs.declared.Protocol.{Protocol}
-use Rattle.sizes.specs.Sizes.{valuesIn, refusal as refusalOfSizes, beside}
+use Rattle.protocols.specs.declared.Protocol.{Protocol}
+use Rattle.protocols.specs.declared.Protocol.the-variants.{Agreement}
+use Rattle.sizes.specs.Sizes.{refusal as refusalOfSizes}
+use Rattle.protocols.specs.Protocols.{valuesIn, beside, posts}
 use Rattle.messages.specs.Messages.{refusal, unlessRefused}
 use Rattle.agreement.specs.declared.Outcome.{Outcome}
 use Rattle.agreement.specs.declared.Outcome.the-variants.{Nothing, Record}
@@ -20,7 +22,7 @@ use Rattle.agreement.specs.declared.Answered.{Answered}
 use Rattle.agreement.specs.declared.Reply.{Reply}
 use Rattle.agreement.specs.declared.Reply.the-variants as R
 use Rattle.agreement.specs.declared.Replied.{Replied}
-use Rattle.agreement.specs.Column.{freshColumn, freshIn, fits}
+use Rattle.agreement.specs.Column.{freshColumn, fits}
 use Rattle.agreement.specs.Parts.{withStage}
 use Rattle.agreement.specs.Rounds.{outgoing, listens}
 
@@ -48,10 +50,10 @@ freshRefusal p n m own len = refusal (orElse (refusalOfSizes n m own) (refusalOf
 
 -- what stands beside a refusal: a column of no wall, which every later call refuses with 11
 unfoldable pub noColumn : Column
-noColumn = freshColumn 0 0 0 []
+noColumn = freshColumn Agreement 0 0 0 []
 
 unfoldable pub fresh : Protocol → ℕ → ℕ → ℕ → List ℕ → Answered
-fresh p n m own bytes = answered (freshRefusal p n m own (length bytes)) (freshIn p n m own bytes) noColumn
+fresh p n m own bytes = answered (freshRefusal p n m own (length bytes)) (freshColumn p n m own bytes) noColumn
 
 -- REFUSALS FROM THE STATE. "Order 11, 10, 7, 8, 9; all before 4."
 
@@ -80,37 +82,37 @@ whenAsked (Listen round) = 9
 whenAsked (Ended outcome) = 0
 
 -- 11 before the refusal that the stage gives
-unfoldable pub inState : Protocol → Column → ℕ → ℕ
-inState p c why = cond (fits p c) why 11
+unfoldable pub inState : Column → ℕ → ℕ
+inState c why = cond (fits c) why 11
 
 -- and 4 after it, for a slice of `len` values that has not the length of the round's messages
-unfoldable pub inRound : Protocol → Column → ℕ → ℕ → ℕ
-inRound p c why len = refusal (inState p c why) (c .n) (valuesIn p (c .n) (c .m) (roundOf (c .stage))) len
+unfoldable pub inRound : Column → ℕ → ℕ → ℕ
+inRound c why len = refusal (inState c why) (c .n) (valuesIn (c .protocol) (c .n) (c .m) (roundOf (c .stage))) len
 
 -- SPEAK
 
-unfoldable pub speakRefusal : Protocol → Column → ℕ → ℕ
-speakRefusal p c len = inRound p c (whenSpeaking (c .stage)) len
+unfoldable pub speakRefusal : Column → ℕ → ℕ
+speakRefusal c len = inRound c (whenSpeaking (c .stage)) len
 
-unfoldable pub speak : Protocol → Column → List ℕ → Answered
-speak p c out = answered (speakRefusal p c (length out)) (withStage (Listen (roundOf (c .stage))) c) c
+unfoldable pub speak : Column → List ℕ → Answered
+speak c out = answered (speakRefusal c (length out)) (withStage (Listen (roundOf (c .stage))) c) c
 
 -- the lent slice after the call
-unfoldable pub written : Protocol → Column → List ℕ → List ℕ
-written p c out = unlessRefused (speakRefusal p c (length out)) (outgoing p c (roundOf (c .stage))) out
+unfoldable pub written : Column → List ℕ → List ℕ
+written c out = unlessRefused (speakRefusal c (length out)) (outgoing c (roundOf (c .stage))) out
 
 -- LISTEN
 
-unfoldable pub listenRefusal : Protocol → Column → ℕ → ℕ
-listenRefusal p c len = inRound p c (whenListening (c .stage)) len
+unfoldable pub listenRefusal : Column → ℕ → ℕ
+listenRefusal c len = inRound c (whenListening (c .stage)) len
 
-unfoldable pub listen : Protocol → Column → List ℕ → Answered
-listen p c inbox = answered (listenRefusal p c (length inbox)) (listens p (roundOf (c .stage)) c inbox) c
+unfoldable pub listen : Column → List ℕ → Answered
+listen c inbox = answered (listenRefusal c (length inbox)) (listens (roundOf (c .stage)) c inbox) c
 
 -- THE OUTCOME
 
-unfoldable pub outcomeRefusal : Protocol → Column → ℕ
-outcomeRefusal p c = inState p c (whenAsked (c .stage))
+unfoldable pub outcomeRefusal : Column → ℕ
+outcomeRefusal c = inState c (whenAsked (c .stage))
 
 -- what the column ended on; nothing before the end, where the call is refused
 unfoldable pub ending : Stage → Outcome
@@ -118,8 +120,8 @@ ending (Speak round) = Nothing
 ending (Listen round) = Nothing
 ending (Ended outcome) = outcome
 
-unfoldable pub replyOf : Protocol → Column → Reply
-replyOf p c = cond (eqb (outcomeRefusal p c) 0) (R.Ended (ending (c .stage))) (R.Refused (outcomeRefusal p c))
+unfoldable pub replyOf : Column → Reply
+replyOf c = cond (eqb (outcomeRefusal c) 0) (R.Ended (ending (c .stage))) (R.Refused (outcomeRefusal c))
 
 -- "32 record bytes, zeros past m or without a record"
 unfoldable pub shown : Reply → List ℕ → List ℕ
@@ -127,15 +129,19 @@ shown (R.Ended Nothing) bytes = replicate 32 0
 shown (R.Ended Record) bytes = bytes
 shown (R.Refused why) bytes = replicate 32 0
 
-unfoldable pub outcome : Protocol → Column → Replied
-outcome p c = record { reply = replyOf p c; bytes = shown (replyOf p c) (c .bytes); column = c }
-
 -- of a posting: "at dispersal grade 2, grade 2 with what decoding gave, record or none; else grade 1 if decoding gave a record; else none at
 -- grade 0"
 unfoldable pub gradeIn : ℕ → Reply → ℕ
 gradeIn grade (R.Ended Nothing) = cond (eqb grade 2) 2 0
 gradeIn grade (R.Ended Record) = cond (eqb grade 2) 2 1
 gradeIn grade (R.Refused why) = 0
+
+-- the grade that goes with a reply: the dispersal grade, and of a posting "the outcome's grade"
+unfoldable pub gradeShown : Protocol → ℕ → Reply → ℕ
+gradeShown p grade reply = cond (posts p) (gradeIn grade reply) grade
+
+unfoldable pub outcome : Column → Replied
+outcome c = record { reply = replyOf c; grade = gradeShown (c .protocol) (c .grade) (replyOf c); bytes = shown (replyOf c) (c .bytes); column = c }
 
 -- document 01's number of a reply, 0 for none
 unfoldable pub refusalIn : Reply → ℕ

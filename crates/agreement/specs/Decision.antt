@@ -7,32 +7,33 @@ use mathlib.Core.Option.{Option, none, some}
 use Prim.Native.Nat.{ℕ, zero, suc, _≤_, _<_}
 use native.Mathlib.Omega.{arith}
 use native.Mathlib.Decide.{decLe}
-use borrow.Author.Tests.{eqb-true, eqb-false}
+use borrow.Author.Tests.{eq-eqb, eqb-true, eqb-false}
 use lib.Dec.{T, eqb, leb, eqb→eq}
 use Rattle.lists.specs.Lists.{count}
 use Rattle.lists.specs.Tests.{eq→eqb, conj, and-left, and-both}
 use Rattle.lists.specs.Count.{mono, find, Found, count-pos}
-use Rattle.sizes.specs.declared.Protocol.the-variants.{Agreement}
+use Rattle.protocols.specs.declared.Protocol.the-variants.{Agreement}
 use Rattle.sizes.specs.Sizes.{faults}
 use Rattle.messages.specs.Wall.{Sound, holds}
 use Rattle.king.specs.King.{phases}
 use Rattle.king.specs.Phases.{sound-king, agreement, validity}
 use Rattle.dispersal.specs.Run.{Graded, keeps}
+use Rattle.protocols.specs.Protocols.{beside, posts}
 use Rattle.agreement.specs.declared.Column.{Column}
-use Rattle.agreement.specs.Column.{freshColumn, freshIn}
-use Rattle.agreement.specs.Rounds.{voteIn, firstVote}
+use Rattle.agreement.specs.Column.{brought, freshColumn}
+use Rattle.agreement.specs.Rounds.{votesOne, firstVote}
 use Rattle.agreement.specs.Kinds.{rounds-of}
 use Rattle.agreement.specs.Course.{course}
 use Rattle.agreement.specs.Courses.{Courses, state, places}
 use Rattle.agreement.specs.Dispersal as D
 use Rattle.agreement.specs.Dissemination as E
-use Rattle.agreement.specs.Agreeing.{base, disperses, disseminates, record-lasts, grade-lasts}
+use Rattle.agreement.specs.Agreeing.{base, disperses, disseminates, record-lasts, grade-lasts, own-vote}
 use Rattle.agreement.specs.Phases.{votes, first-vote, phase}
 
 module _ {n m : ℕ} {H : ℕ → Bool} {held : ℕ → List ℕ} {inbox : ℕ → ℕ → List ℕ} (C : Courses Agreement n m H held inbox) where
   -- the records that the columns hold before dispersal and before dissemination are those of the start
   held-first : (i : ℕ) → state C i 0 .bytes ≡ places C i
-  unfolding course freshIn freshColumn
+  unfolding course freshColumn brought posts beside
   held-first i = refl
 
   pub held-last : (i : ℕ) → state C i (base (phases n)) .bytes ≡ places C i
@@ -40,17 +41,17 @@ module _ {n m : ℕ} {H : ℕ → Bool} {held : ℕ → List ℕ} {inbox : ℕ �
 
   -- THEOREM 3.3, of the columns' states
   pub graded : Graded n H (places C) (λ i. state C i 3 .grade)
-  graded = D.course-graded C 0 (disperses n m) (places C) held-first (C .records)
+  graded = D.course-graded C 0 (disperses n) (places C) held-first (C .records)
 
   grade-small : (i : ℕ) → state C i 3 .grade < 3
-  grade-small = D.grade-small C 0 (disperses n m) (places C) held-first
+  grade-small = D.grade-small C 0 (disperses n) (places C) held-first
 
   -- column i, to listen in the last round, and what it ends on
   abbrev pub lastly : ℕ → Column
-  lastly = E.lastly C (base (phases n)) (disseminates n m) (places C) held-last
+  lastly = E.lastly C (base (phases n)) (disseminates n) (places C) held-last
 
   abbrev pub decides : ℕ → Option (List ℕ)
-  decides = E.decides C (base (phases n)) (disseminates n m) (places C) held-last
+  decides = E.decides C (base (phases n)) (disseminates n) (places C) held-last
 
 pub record Decision {n m : ℕ} {H : ℕ → Bool} {held : ℕ → List ℕ} {inbox : ℕ → ℕ → List ℕ} (C : Courses Agreement n m H held inbox) : Type 0 where
   -- the wall's outcome, a record in its 32 places
@@ -95,6 +96,10 @@ module _ {n m : ℕ} {H : ℕ → Bool} {held : ℕ → List ℕ} {inbox : ℕ �
       go true e = omega (arith, start-one i (eqb-true (g i) 2 e))
       go false e = omega (arith, first-vote C i, vote-zero (g i) (grade-small C i) (eqb-false (g i) 2 e))
 
+  -- with its vote after the phases a column goes into dissemination
+  last-vote : (i : ℕ) → votesOne (state C i (base (phases n))) ≡ eqb (votes C (phases n) i) 1
+  last-vote i = own-vote C i (base (phases n))
+
   -- all votes after the phases are 1, and column c left with grade 2: all end on its record
   module _ (ones : (i : ℕ) → Sound n H i → votes C (phases n) i ≡ 1) (c : ℕ) (sc : Sound n H c) (two : g c ≡ 2) where
     -- at least t + 1 sound columns held it
@@ -108,9 +113,8 @@ module _ {n m : ℕ} {H : ℕ → Bool} {held : ℕ → List ℕ} {inbox : ℕ �
 
     -- and all end on it
     ended : (i : ℕ) → Sound n H i → decides C i ≡ some (places C c)
-    unfolding voteIn
     ended =
-        E.grade-two-decides C (base (phases n)) (disseminates n m) (places C) (held-last C) ones g (λ i. grade-lasts n m i (held i) (inbox i) (base (phases n)) (omega arith)) (graded C) c sc two
+        E.grade-two-decides C (base (phases n)) (disseminates n) (places C) (held-last C) (λ i si. last-vote i ∙ eq-eqb _ 1 (ones i si)) g (λ i. grade-lasts n m i (held i) (inbox i) (base (phases n)) (omega arith)) (graded C) c sc two
         (C .records c sc)
 
     on-record : Decision C
@@ -125,8 +129,7 @@ module _ {n m : ℕ} {H : ℕ → Bool} {held : ℕ → List ℕ} {inbox : ℕ �
 
   -- all votes after the phases are 0: all end on none, and not all held one record
   decides-zero : (i : ℕ) → votes C (phases n) i ≡ 0 → decides C i ≡ none
-  unfolding voteIn
-  decides-zero i e = E.decides-none C (base (phases n)) (disseminates n m) (places C) (held-last C) i e
+  decides-zero i e = E.decides-none C (base (phases n)) (disseminates n) (places C) (held-last C) i (last-vote i ∙ ap (λ (v : ℕ). eqb v 1) e)
 
   on-none : ((i : ℕ) → Sound n H i → votes C (phases n) i ≡ 0) → Decision C
   on-none zeros =

@@ -5,8 +5,8 @@ use mathlib.Core.Bool.{Bool}
 use mathlib.Core.List.{List, [], _∷_}
 use Prim.Native.Nat.{ℕ, suc, _*_, _<_}
 use native.Mathlib.Omega.{arith}
-use Rattle.sizes.specs.declared.Protocol.{Protocol}
-use Rattle.sizes.specs.Sizes.{blocks, roundsIn, valuesIn}
+use Rattle.protocols.specs.declared.Protocol.{Protocol}
+use Rattle.sizes.specs.Sizes.{blocks}
 use Rattle.messages.specs.Messages.{from, toAll, heardOfAll}
 use Rattle.messages.specs.Wall.{Sound, Delivered}
 use Rattle.codeword.specs.Codeword.{Held}
@@ -15,23 +15,21 @@ use Rattle.dispersal.specs.Run.{Graded}
 use Rattle.dispersal.specs.Graded.{grade-lt}
 use Rattle.dispersal.specs.Calls.{agreementsOf, firstOf, reportsOf, secondOf, leavesWith, calls-graded}
 use Rattle.agreement.specs.declared.Column.{Column}
-use Rattle.agreement.specs.declared.Kind.the-variants.{Exchange, FirstReport, SecondReport}
+use Rattle.protocols.specs.declared.Kind.the-variants.{Exchange, FirstReport, SecondReport}
+use Rattle.protocols.specs.Protocols.{width, roundsIn, kindIn}
 use Rattle.agreement.specs.Parts.{withStage, withAgreements, withReports, withGrade, withVote}
-use Rattle.agreement.specs.Rounds.{kindIn, voting, recast, message, received, graded, hears}
+use Rattle.agreement.specs.Rounds.{message, received, graded, hears}
 use Rattle.agreement.specs.Courses.{Courses, state, is, next, sent, of}
 
 -- q rounds are over, and three of dispersal follow
-pub record Disperses (p : Protocol) (n m q : ℕ) : Type 0 where
+pub record Disperses (p : Protocol) (n q : ℕ) : Type 0 where
   pub many : suc (suc (suc q)) < roundsIn p n
   pub kind₁ : kindIn p n (suc q) ≡ Exchange
   pub kind₂ : kindIn p n (suc (suc q)) ≡ FirstReport
   pub kind₃ : kindIn p n (suc (suc (suc q))) ≡ SecondReport
-  pub width₁ : valuesIn p n m (suc q) ≡ 2 * blocks n m
-  pub width₂ : valuesIn p n m (suc (suc q)) ≡ 1
-  pub width₃ : valuesIn p n m (suc (suc (suc q))) ≡ 1
 
 module _ {p : Protocol} {n m : ℕ} {H : ℕ → Bool} {held : ℕ → List ℕ} {inbox : ℕ → ℕ → List ℕ} (C : Courses p n m H held inbox)
-    (q : ℕ) (D : Disperses p n m q) (places : ℕ → List ℕ) (holding : (i : ℕ) → state C i q .bytes ≡ places i) where
+    (q : ℕ) (D : Disperses p n q) (places : ℕ → List ℕ) (holding : (i : ℕ) → state C i q .bytes ≡ places i) where
   q₁ : ℕ
   q₁ = suc q
 
@@ -48,19 +46,19 @@ module _ {p : Protocol} {n m : ℕ} {H : ℕ → Bool} {held : ℕ → List ℕ}
   reported = reportsOf n m places (of C q₁) (of C q₂) (of C q₃)
 
   agreements₁ : (i : ℕ) → state C i q₁ .agreements ≡ agreed i
-  unfolding q₁ hears voting recast withStage withAgreements withVote
+  unfolding q₁ hears withStage withAgreements
   agreements₁ i =
-      let a = is C i q (omega (arith, D .many)) in
+      let a = is C i q in
       ap (λ (c : Column). c .agreements) (next C i q Exchange (D .kind₁)) ∙ rw (a .n-is, a .m-is, a .own-is, holding i)
 
   agreements₂ : (i : ℕ) → state C i q₂ .agreements ≡ agreed i
-  unfolding q₁ q₂ hears voting recast withStage withReports withVote
+  unfolding q₁ q₂ hears withStage withReports
   agreements₂ i = ap (λ (c : Column). c .agreements) (next C i q₁ FirstReport (D .kind₂)) ∙ agreements₁ i
 
   reports₂ : (i : ℕ) → state C i q₂ .reports ≡ reported i
-  unfolding q₁ q₂ hears voting recast withStage withReports withVote received message
+  unfolding q₁ q₂ hears withStage withReports received message
   reports₂ i =
-      let a = is C i q₁ (omega (arith, D .many)) in
+      let a = is C i q₁ in
       let c = state C i q₁ in
       let e : reports (c .n) (from (heardOfAll (c .n) (c .own) (firstReport (c .n) (agrees (c .agreements)) ∷ []) 1 (of C (suc q₁) i) 0)) ≡ reported i =
       rw (a .n-is, a .own-is, agreements₁ i) in
@@ -68,9 +66,9 @@ module _ {p : Protocol} {n m : ℕ} {H : ℕ → Bool} {held : ℕ → List ℕ}
 
   -- the grade with which a column leaves is the one that Protocol 3.2 gives
   grade₃ : (i : ℕ) → state C i q₃ .grade ≡ leavesWith n m places (of C q₁) (of C q₂) (of C q₃) i
-  unfolding q₂ q₃ hears voting recast withStage withGrade withVote graded received message
+  unfolding q₂ q₃ hears withStage withGrade withVote graded received message
   grade₃ i =
-      let a = is C i q₂ (omega (arith, D .many)) in
+      let a = is C i q₂ in
       ap (λ (c : Column). c .grade) (next C i q₂ SecondReport (D .kind₃)) ∙ rw (a .n-is, a .own-is, agreements₂ i, reports₂ i)
 
   pub grade-small : (i : ℕ) → state C i (suc (suc (suc q))) .grade < 3
@@ -78,25 +76,25 @@ module _ {p : Protocol} {n m : ℕ} {H : ℕ → Bool} {held : ℕ → List ℕ}
   grade-small i = rw (grade₃ i) (grade-lt n i _ _ _)
 
   sent₁ : Delivered n H (2 * blocks n m) (λ j. exchanges n m j (places j)) (of C q₁)
-  unfolding q₁ message voting withVote exchanges
+  unfolding q₁ message width exchanges
   sent₁ =
-      sent C q (2 * blocks n m) Exchange (λ j i. exchange n m j (places j) i) (omega (arith, D .many)) (D .kind₁) (D .width₁) (λ j i sj.
-      let a = is C j q (omega (arith, D .many)) in
+      sent C q Exchange (λ j i. exchange n m j (places j) i) (omega (arith, D .many)) (D .kind₁) (λ j i sj.
+      let a = is C j q in
       let c = state C j q in
       let e : exchange (c .n) (c .m) (c .own) (c .bytes) i ≡ exchange n m j (places j) i = rw (a .n-is, a .m-is, a .own-is, holding j) in
       e)
 
   sent₂ : Delivered n H 1 (λ j. toAll n 1 (firstOf n m places (of C q₁) (of C q₂) (of C q₃) j ∷ [])) (of C q₂)
-  unfolding q₁ q₂ message voting withVote toAll
+  unfolding q₁ q₂ message width toAll
   sent₂ =
-      sent C q₁ 1 FirstReport (λ j i. firstOf n m places (of C q₁) (of C q₂) (of C q₃) j ∷ []) (omega (arith, D .many)) (D .kind₂) (D .width₂) (λ j i sj.
-      let a = is C j q₁ (omega (arith, D .many)) in rw (a .n-is, agreements₁ j))
+      sent C q₁ FirstReport (λ j i. firstOf n m places (of C q₁) (of C q₂) (of C q₃) j ∷ []) (omega (arith, D .many)) (D .kind₂) (λ j i sj.
+      let a = is C j q₁ in rw (a .n-is, agreements₁ j))
 
   sent₃ : Delivered n H 1 (λ j. toAll n 1 (secondOf n m places (of C q₁) (of C q₂) (of C q₃) j ∷ [])) (of C q₃)
-  unfolding q₂ q₃ message voting withVote toAll
+  unfolding q₂ q₃ message width toAll
   sent₃ =
-      sent C q₂ 1 SecondReport (λ j i. secondOf n m places (of C q₁) (of C q₂) (of C q₃) j ∷ []) (omega (arith, D .many)) (D .kind₃) (D .width₃) (λ j i sj.
-      let a = is C j q₂ (omega (arith, D .many)) in rw (a .n-is, a .own-is, agreements₂ j, reports₂ j))
+      sent C q₂ SecondReport (λ j i. secondOf n m places (of C q₁) (of C q₂) (of C q₃) j ∷ []) (omega (arith, D .many)) (D .kind₃) (λ j i sj.
+      let a = is C j q₂ in rw (a .n-is, a .own-is, agreements₂ j, reports₂ j))
 
   -- THEOREM 3.3, of the columns' states
   pub course-graded : ((i : ℕ) → Sound n H i → Held m (places i)) → Graded n H places (λ i. state C i (suc (suc (suc q))) .grade)

@@ -1,7 +1,7 @@
 -- Two rounds of the courses that are points and kept points are a run of data dissemination, so Theorem 3.9 speaks of what the columns
 -- end on.
-use mathlib.Core.Path.{_≡_, refl, ap, _∙_}
-use mathlib.Core.Bool.{Bool, true}
+use mathlib.Core.Path.{_≡_, ap, _∙_}
+use mathlib.Core.Bool.{Bool, true, false}
 use mathlib.Core.List.{List}
 use mathlib.Core.Option.{Option, none, some}
 use Prim.Native.Nat.{ℕ, suc, _≤_}
@@ -11,9 +11,8 @@ use Rattle.lists.specs.Lists.{count, same}
 use Rattle.lists.specs.Tests.{conj, and-both, by-contra}
 use Rattle.lists.specs.Entries.{same-eq, same-refl}
 use Rattle.lists.specs.Count.{mono}
-use Rattle.sizes.specs.declared.Protocol.{Protocol}
-use Rattle.sizes.specs.declared.Protocol.the-variants.{Agreement, Posting}
-use Rattle.sizes.specs.Sizes.{faults, blocks, roundsIn, valuesIn}
+use Rattle.protocols.specs.declared.Protocol.{Protocol}
+use Rattle.sizes.specs.Sizes.{faults, blocks}
 use Rattle.messages.specs.Messages.{toAll}
 use Rattle.messages.specs.Wall.{Sound, holds, Delivered}
 use Rattle.codeword.specs.Codeword.{Held}
@@ -22,58 +21,53 @@ use Rattle.dissemination.specs.Dissemination.{spoken, points, pointsToAll}
 use Rattle.dissemination.specs.Run.{inputs}
 use Rattle.dissemination.specs.Calls.{keptOf, calls-consistent}
 use Rattle.agreement.specs.declared.Column.{Column}
-use Rattle.agreement.specs.declared.Kind.the-variants.{Points, KeptPoints}
-use Rattle.agreement.specs.Parts.{withStage, withKept, withVote, withBytes}
-use Rattle.agreement.specs.Rounds.{kindIn, voteIn, voteAfter, voting, recast, votesOne, spreads, message, outcomeOf, endsOn, hears}
+use Rattle.protocols.specs.declared.Kind.the-variants.{Points, KeptPoints}
+use Rattle.protocols.specs.Protocols.{width, roundsIn, kindIn}
+use Rattle.agreement.specs.Parts.{withStage, withKept}
+use Rattle.agreement.specs.Rounds.{votesOne, spreads, message, outcomeOf, endsOn, hears}
 use Rattle.agreement.specs.Course.{listening}
 use Rattle.agreement.specs.Courses.{Courses, state, is, next, sent, of}
 
 -- q rounds are over, and the two of dissemination end the run
-pub record Disseminates (p : Protocol) (n m q : ℕ) : Type 0 where
+pub record Disseminates (p : Protocol) (n q : ℕ) : Type 0 where
   pub last : roundsIn p n ≡ suc (suc q)
   pub kind₁ : kindIn p n (suc q) ≡ Points
   pub kind₂ : kindIn p n (suc (suc q)) ≡ KeptPoints
-  pub width₁ : valuesIn p n m (suc q) ≡ blocks n m
-  pub width₂ : valuesIn p n m (suc (suc q)) ≡ blocks n m
 
 module _ {p : Protocol} {n m : ℕ} {H : ℕ → Bool} {held : ℕ → List ℕ} {inbox : ℕ → ℕ → List ℕ} (C : Courses p n m H held inbox)
-    (q : ℕ) (D : Disseminates p n m q) (places : ℕ → List ℕ) (holding : (i : ℕ) → state C i q .bytes ≡ places i) where
+    (q : ℕ) (D : Disseminates p n q) (places : ℕ → List ℕ) (holding : (i : ℕ) → state C i q .bytes ≡ places i) where
   -- column i has its record for an input
   abbrev pub has : ℕ → Bool
-  has i = spreads (voting p (state C i q))
+  has i = spreads (state C i q)
 
   abbrev keptBy : ℕ → List ℕ
   keptBy = keptOf n m has places (of C (suc q)) (of C (suc (suc q)))
 
   kept-is : (i : ℕ) → state C i (suc q) .kept ≡ keptBy i
-  unfolding hears voting recast withStage withKept withVote spreads votesOne
+  unfolding hears withStage withKept spreads votesOne
   kept-is i =
-      let a = is C i q (omega (arith, D .last)) in
+      let a = is C i q in
       ap (λ (c : Column). c .kept) (next C i q Points (D .kind₁)) ∙ rw (a .n-is, a .m-is, a .own-is, holding i)
 
-  -- the vote that the rounds read stays as it is
-  vote-stays : (i : ℕ) → voteIn p (state C i (suc q) .vote) ≡ voteIn p (state C i q .vote)
-  unfolding hears voting recast withStage withKept withVote voteIn voteAfter
-  vote-stays i = ap (λ (c : Column). voteIn p (c .vote)) (next C i q Points (D .kind₁)) ∙ go p (state C i q .vote)
-    where
-      go : (p : Protocol) (v : ℕ) → voteIn p (voteAfter p v (voteIn p v)) ≡ voteIn p v
-      go Agreement v = refl
-      go (Posting s) v = refl
+  -- the vote stays as it is
+  vote-stays : (i : ℕ) → votesOne (state C i (suc q)) ≡ votesOne (state C i q)
+  unfolding hears votesOne withStage withKept
+  vote-stays i = ap votesOne (next C i q Points (D .kind₁))
 
   points-sent : Delivered n H (blocks n m) (λ j. pointsToAll n m (has j) (places j)) (of C (suc q))
-  unfolding message pointsToAll voting withVote
+  unfolding message width pointsToAll
   points-sent =
-      sent C q (blocks n m) Points (λ j i. points n m (has j) (places j) i) (omega (arith, D .last)) (D .kind₁) (D .width₁)
+      sent C q Points (λ j i. points n m (has j) (places j) i) (omega (arith, D .last)) (D .kind₁)
       (λ j i sj.
-      let a = is C j q (omega (arith, D .last)) in rw (a .n-is, a .m-is, holding j))
+      let a = is C j q in rw (a .n-is, a .m-is, holding j))
 
   -- where all sound columns have the vote 1, the kept points are sent
-  kept-sent : ((j : ℕ) → Sound n H j → voteIn p (state C j q .vote) ≡ 1)
+  kept-sent : ((j : ℕ) → Sound n H j → votesOne (state C j q) ≡ true)
       → Delivered n H (blocks n m) (λ j. toAll n (blocks n m) (spoken true (keptBy j))) (of C (suc (suc q)))
-  unfolding message toAll votesOne voting withVote
+  unfolding message width toAll
   kept-sent ones =
-      sent C (suc q) (blocks n m) KeptPoints (λ j i. spoken true (keptBy j)) (omega (arith, D .last)) (D .kind₂) (D .width₂)
-      (λ j i sj. rw (kept-is j, vote-stays j, ones j sj))
+      sent C (suc q) KeptPoints (λ j i. spoken true (keptBy j)) (omega (arith, D .last)) (D .kind₂)
+      (λ j i sj. rw (vote-stays j, ones j sj, kept-is j))
 
   -- column i, to listen in the last round
   abbrev pub lastly : ℕ → Column
@@ -81,32 +75,25 @@ module _ {p : Protocol} {n m : ℕ} {H : ℕ → Bool} {held : ℕ → List ℕ}
 
   -- what it ends on
   unfoldable pub decides : ℕ → Option (List ℕ)
-  decides i = outcomeOf (voting p (lastly i)) (inbox i (suc (suc q)))
+  decides i = outcomeOf (lastly i) (inbox i (suc (suc q)))
 
   pub last-state : (i : ℕ) → state C i (roundsIn p n) ≡ endsOn (decides i) (lastly i)
-  unfolding hears decides endsOn recast voting voteIn voteAfter withStage withVote withBytes
-  last-state i =
-      ap (state C i) (D .last) ∙ next C i (suc q) KeptPoints (D .kind₂) ∙ go p (lastly i) (decides i)
-    where
-      go : (p : Protocol) (c : Column) (o : Option (List ℕ)) → recast p (c .vote) (endsOn o (voting p c)) ≡ endsOn o c
-      go Agreement c none = refl
-      go Agreement c (some bytes) = refl
-      go (Posting s) c none = refl
-      go (Posting s) c (some bytes) = refl
+  unfolding hears decides
+  last-state i = ap (state C i) (D .last) ∙ next C i (suc q) KeptPoints (D .kind₂)
 
   -- with vote 0 on none
-  pub decides-none : (i : ℕ) → voteIn p (state C i q .vote) ≡ 0 → decides i ≡ none
-  unfolding decides outcomeOf withStage votesOne voting withVote
+  pub decides-none : (i : ℕ) → votesOne (state C i q) ≡ false → decides i ≡ none
+  unfolding decides outcomeOf withStage votesOne
   decides-none i e = rw (vote-stays i, e)
 
-  module _ (ones : (i : ℕ) → Sound n H i → voteIn p (state C i q .vote) ≡ 1) where
+  module _ (ones : (i : ℕ) → Sound n H i → votesOne (state C i q) ≡ true) where
     -- THEOREM 3.9, of the columns' states: with vote 1 at all sound columns, on the record that t + 1 of them have for an input, if no sound
     -- column has another one
     decides-record : (r : List ℕ) → Held m r → suc (faults n) ≤ count (inputs H has places r) n
         → ((j : ℕ) → Sound n H j → T (has j) → places j ≡ r) → (i : ℕ) → Sound n H i → decides i ≡ some r
-    unfolding decides outcomeOf withStage votesOne message voting withVote
+    unfolding decides outcomeOf withStage votesOne message
     decides-record r whole many only i si =
-        let a = is C i (suc q) (omega (arith, D .last)) in
+        let a = is C i (suc q) in
         rw (vote-stays i, ones i si, a .n-is, a .m-is, a .own-is, kept-is i)
         (calls-consistent n m has places (of C (suc q)) (of C (suc (suc q))) H (C .wall) (C .bytes-low) (C .bytes-high) points-sent (kept-sent ones) r whole many only i si)
 
@@ -115,7 +102,7 @@ module _ {p : Protocol} {n m : ℕ} {H : ℕ → Bool} {held : ℕ → List ℕ}
     module _ (g : ℕ → ℕ) (lasts : (i : ℕ) → state C i q .grade ≡ g i) (G : Graded n H places g) (c : ℕ) (sc : Sound n H c) (two : g c ≡ 2) where
       -- who has an input left with grade 1 or 2, and the other way round
       has-is : (i : ℕ) → Sound n H i → has i ≡ leb 1 (g i)
-      unfolding spreads votesOne voting withVote
+      unfolding spreads votesOne
       has-is i si = rw (ones i si, lasts i)
 
       one-record : (j : ℕ) → Sound n H j → T (has j) → places j ≡ places c

@@ -7,32 +7,32 @@ use Rattle.agreement.specs.declared.Column.{Column}
 
 unfoldable pub withStage : Stage → Column → Column
 withStage stage c =
-    record { n = c .n; m = c .m; own = c .own; bytes = c .bytes; proposal = c .proposal; stage = stage; agreements = c .agreements; reports = c .reports; grade = c .grade; vote = c .vote; firm = c .firm; kept = c .kept }
+    record { protocol = c .protocol; n = c .n; m = c .m; own = c .own; bytes = c .bytes; proposal = c .proposal; stage = stage; agreements = c .agreements; reports = c .reports; grade = c .grade; vote = c .vote; firm = c .firm; kept = c .kept }
 
 unfoldable pub withBytes : List ℕ → Column → Column
 withBytes bytes c =
-    record { n = c .n; m = c .m; own = c .own; bytes = bytes; proposal = c .proposal; stage = c .stage; agreements = c .agreements; reports = c .reports; grade = c .grade; vote = c .vote; firm = c .firm; kept = c .kept }
+    record { protocol = c .protocol; n = c .n; m = c .m; own = c .own; bytes = bytes; proposal = c .proposal; stage = c .stage; agreements = c .agreements; reports = c .reports; grade = c .grade; vote = c .vote; firm = c .firm; kept = c .kept }
 
 unfoldable pub withProposal : ℕ → Column → Column
 withProposal proposal c =
-    record { n = c .n; m = c .m; own = c .own; bytes = c .bytes; proposal = proposal; stage = c .stage; agreements = c .agreements; reports = c .reports; grade = c .grade; vote = c .vote; firm = c .firm; kept = c .kept }
+    record { protocol = c .protocol; n = c .n; m = c .m; own = c .own; bytes = c .bytes; proposal = proposal; stage = c .stage; agreements = c .agreements; reports = c .reports; grade = c .grade; vote = c .vote; firm = c .firm; kept = c .kept }
 
 unfoldable pub withAgreements : List Bool → Column → Column
 withAgreements agreements c =
-    record { n = c .n; m = c .m; own = c .own; bytes = c .bytes; proposal = c .proposal; stage = c .stage; agreements = agreements; reports = c .reports; grade = c .grade; vote = c .vote; firm = c .firm; kept = c .kept }
+    record { protocol = c .protocol; n = c .n; m = c .m; own = c .own; bytes = c .bytes; proposal = c .proposal; stage = c .stage; agreements = agreements; reports = c .reports; grade = c .grade; vote = c .vote; firm = c .firm; kept = c .kept }
 
 unfoldable pub withReports : List Bool → Column → Column
 withReports reports c =
-    record { n = c .n; m = c .m; own = c .own; bytes = c .bytes; proposal = c .proposal; stage = c .stage; agreements = c .agreements; reports = reports; grade = c .grade; vote = c .vote; firm = c .firm; kept = c .kept }
+    record { protocol = c .protocol; n = c .n; m = c .m; own = c .own; bytes = c .bytes; proposal = c .proposal; stage = c .stage; agreements = c .agreements; reports = reports; grade = c .grade; vote = c .vote; firm = c .firm; kept = c .kept }
 
 unfoldable pub withGrade : ℕ → Column → Column
 withGrade grade c =
-    record { n = c .n; m = c .m; own = c .own; bytes = c .bytes; proposal = c .proposal; stage = c .stage; agreements = c .agreements; reports = c .reports; grade = grade; vote = c .vote; firm = c .firm; kept = c .kept }
+    record { protocol = c .protocol; n = c .n; m = c .m; own = c .own; bytes = c .bytes; proposal = c .proposal; stage = c .stage; agreements = c .agreements; reports = c .reports; grade = grade; vote = c .vote; firm = c .firm; kept = c .kept }
 
 unfoldable pub withVote : ℕ → Bool → Column → Column
 withVote vote firm c =
-    record { n = c .n; m = c .m; own = c .own; bytes = c .bytes; proposal = c .proposal; stage = c .stage; agreements = c .agreements; reports = c .reports; grade = c .grade; vote = vote; firm = firm; kept = c .kept }
+    record { protocol = c .protocol; n = c .n; m = c .m; own = c .own; bytes = c .bytes; proposal = c .proposal; stage = c .stage; agreements = c .agreements; reports = c .reports; grade = c .grade; vote = vote; firm = firm; kept = c .kept }
 
 unfoldable pub withKept : List ℕ → Column → Column
 withKept kept c =
-    record { n = c .n; m = c .m; own = c .own; bytes = c .bytes; proposal = c .proposal; stage = c .stage; agreements = c .agreements; reports = c .reports; grade = c .grade; vote = c .vote; firm = c .firm; kept = kept }
+    record { protocol = c .protocol; n = c .n; m = c .m; own = c .own; bytes = c .bytes; proposal = c .proposal; stage = c .stage; agreements = c .agreements; reports = c .reports; grade = c .grade; vote = c .vote; firm = c .firm; kept = kept }

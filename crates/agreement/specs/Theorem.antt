@@ -12,9 +12,10 @@ use Rattle.lists.specs.Tests.{conj, and-both}
 use Rattle.lists.specs.Entries.{same-eq, same-refl}
 use Rattle.lists.specs.Count.{mono}
 use Rattle.block.specs.Block.{part}
-use Rattle.sizes.specs.declared.Protocol.the-variants.{Agreement}
-use Rattle.sizes.specs.Sizes.{faults, roundsIn}
-use Rattle.sizes.specs.Laws.{rounds-in-some}
+use Rattle.protocols.specs.declared.Protocol.the-variants.{Agreement}
+use Rattle.sizes.specs.Sizes.{faults}
+use Rattle.protocols.specs.Protocols.{roundsIn}
+use Rattle.protocols.specs.Laws.{rounds-in-some}
 use Rattle.messages.specs.Wall.{Sound, holds}
 use Rattle.codeword.specs.Places.{from-places}
 use Rattle.king.specs.King.{phases}
@@ -23,16 +24,20 @@ use Rattle.dispersal.specs.Run.{Graded, keeps}
 use Rattle.agreement.specs.declared.Column.{Column}
 use Rattle.agreement.specs.Column.{fits}
 use Rattle.agreement.specs.Rounds.{endsOn}
-use Rattle.agreement.specs.Lists.{Item, afterLeading, Run, Answers, AtEnd}
-use Rattle.agreement.specs.Claim.{leaves, Demand}
+use Rattle.machine.specs.Machine.{Asks}
+use Rattle.machine.specs.Lists.{inTurn, afterLeading, Run, EveryRun, Answers, AtEnd}
+use Rattle.agreement.specs.Machine.{machine, plain}
+use Rattle.machine.specs.Claim.{leaves, Demand}
+use Rattle.machine.specs.Carried.{asked, demand-carried, itself}
 use Rattle.agreement.specs.Courses as C
 use Rattle.agreement.specs.Dissemination as E
 use Rattle.agreement.specs.Agreeing.{base, disseminates}
 use Rattle.agreement.specs.Decision.{Decision, decision, graded, lastly, held-last}
 use Rattle.agreement.specs.Endings.{shortened, ended-answers}
+use Rattle.agreement.specs.Turns.{extra-keeps}
 use Rattle.agreement.specs.Runs.{made-is, whole, none-refused, courses, at-end, end-fits}
 
-module _ {n m : ℕ} {H : ℕ → Bool} {held : ℕ → List ℕ} {lists : ℕ → List Item} {out inbox : ℕ → ℕ → List ℕ} (R : Run Agreement n m H held lists out inbox) where
+module _ {n m : ℕ} {H : ℕ → Bool} {held : ℕ → List ℕ} {out inbox : ℕ → ℕ → List ℕ} (R : Run (machine Agreement) Agreement n m H held (inTurn Agreement n out inbox) out inbox) where
   -- column i after q rounds, and the record that it held at the start
   abbrev state : ℕ → ℕ → Column
   state i q = C.state (courses R) i q
@@ -44,15 +49,16 @@ module _ {n m : ℕ} {H : ℕ → Bool} {held : ℕ → List ℕ} {lists : ℕ �
   D = decision (courses R)
 
   -- wherever it is asked behind its last leading call, a column answers what it decided
-  answers : AtEnd Agreement n m H held lists (λ i c. Answers Agreement m c (shortened m (D .decided)))
-  answers i si before behind e none-behind =
-      subst (λ (c : Column). Answers Agreement m c (shortened m (D .decided))) (sym (at-end R i si before behind e none-behind ∙ ended))
-      (ended-answers Agreement m (lastly (courses R) i) (D .decided) (subst (λ (c : Column). T (fits Agreement c)) ended (end-fits R i si)))
+  answers : AtEnd (machine Agreement) n m H held (inTurn Agreement n out inbox) (λ i. Answers (machine Agreement) m (shortened m (D .decided)))
+  answers =
+      asked (machine Agreement) (plain Agreement) R (λ i. Answers (machine Agreement) m (shortened m (D .decided))) λ i si.
+      subst (λ (c : Column). Answers (machine Agreement) m (shortened m (D .decided)) c Asks) (sym (at-end R i si ∙ ended i si))
+      (ended-answers Agreement m (lastly (courses R) i) (D .decided) (subst (λ (c : Column). T (fits c)) (ended i si) (end-fits R i si)))
     where
       -- it ends on what the wall decided
-      ended : state i (roundsIn Agreement n) ≡ endsOn (D .decided) (lastly (courses R) i)
-      ended =
-          E.last-state (courses R) (base (phases n)) (disseminates n m) places (held-last (courses R)) i
+      ended : (i : ℕ) → Sound n H i → state i (roundsIn Agreement n) ≡ endsOn (D .decided) (lastly (courses R) i)
+      ended i si =
+          E.last-state (courses R) (base (phases n)) (disseminates n) places (held-last (courses R)) i
           ∙ ap (λ (o : Option (List ℕ)). endsOn o (lastly (courses R) i)) (D .same-outcome i si)
 
   -- the m bytes of sound column i, from its 32 places
@@ -83,11 +89,11 @@ module _ {n m : ℕ} {H : ℕ → Bool} {held : ℕ → List ℕ} {lists : ℕ �
       rw decided (ap {B = Option (List ℕ)} some (from-places m (R .bytes-high) r (ap length (sym (all (suc k) sk)) ∙ R .records (suc k) sk .0)))
 
   -- the grade that a column leaves with
-  leaves-is : (i : ℕ) → Sound n H i → leaves n m held lists i ≡ state i 3 .grade
+  leaves-is : (i : ℕ) → Sound n H i → leaves (machine Agreement) n m held (inTurn Agreement n out inbox) i ≡ state i 3 .grade
   leaves-is i si =
-      ap (λ (c : Column). afterLeading Agreement 6 c (lists i) .grade) (made-is R i si) ∙ ap (λ (c : Column). c .grade) (whole R i si .led 6 3 refl (omega (arith, rounds-in-some Agreement n)))
+      ap (λ (c : Column). afterLeading (machine Agreement) 6 c (inTurn Agreement n out inbox i) .grade) (made-is R i si) ∙ ap (λ (c : Column). c .grade) (whole R i si .led 6 3 refl (omega (arith, rounds-in-some Agreement n)))
 
-  grades : Graded n H held (leaves n m held lists)
+  grades : Graded n H held (leaves (machine Agreement) n m held (inTurn Agreement n out inbox))
   grades =
       record {
         validity = λ r all i si. leaves-is i si ∙ G .validity (part r 0 32) (λ j sj. ap (λ (r : List ℕ). part r 0 32) (all j sj)) i si;
@@ -95,11 +101,11 @@ module _ {n m : ℕ} {H : ℕ → Bool} {held : ℕ → List ℕ} {lists : ℕ �
             omega (
               arith,
               G .enough c sc (sym (leaves-is c sc) ∙ two),
-              mono (keeps H (places) (λ i. state i 3 .grade) (places c)) (keeps H held (leaves n m held lists) (held c)) n (λ i l u h.
+              mono (keeps H (places) (λ i. state i 3 .grade) (places c)) (keeps H held (leaves (machine Agreement) n m held (inTurn Agreement n out inbox)) (held c)) n (λ i l u h.
                   let si : Sound n H i = (l, u, search conj) in
                   let held-it : T (same (places i) (places c)) = search conj in
                   let one : T (leb 1 (state i 3 .grade)) = search conj in
-                  and-both (holds H held (held c) i) (leb 1 (leaves n m held lists i))
+                  and-both (holds H held (held c) i) (leb 1 (leaves (machine Agreement) n m held (inTurn Agreement n out inbox) i))
                   (and-both (H i) (same (held i) (held c)) (si .2) (rw (one-record i c si sc (same-eq _ _ held-it)) (same-refl (held c)))) (rw (leaves-is i si) one)),
             );
         others = λ c i sc si two ne. leaves-is i si ∙ G .others c i sc si (sym (leaves-is c sc) ∙ two) (λ e. ne (one-record i c si sc e));
@@ -111,14 +117,16 @@ module _ {n m : ℕ} {H : ℕ → Bool} {held : ℕ → List ℕ} {lists : ℕ �
       one-record : (i c : ℕ) → Sound n H i → Sound n H c → places i ≡ places c → held i ≡ held c
       one-record i c si sc e = sym (held-is i si) ∙ ap (take m) e ∙ held-is c sc
 
-  -- THE THEOREM
-  pub third-demand : Demand n m H held lists
-  third-demand =
+  -- of calls in turn
+  in-turn : Demand (machine Agreement) n m H held (inTurn Agreement n out inbox)
+  in-turn =
       record {
         accepted = none-refused R;
-        decided = shortened m (D .decided);
-        same-outcome = answers;
-        many-held = many (D .decided) refl;
-        all-alike = alike;
-        grades = grades;
+        value = λ i. shortened m (D .decided);
+        outputs = answers;
+        agreed = record { decided = shortened m (D .decided); same-outcome = λ i si. refl; many-held = many (D .decided) refl; all-alike = alike; grades = grades };
       }
+
+-- THE THEOREM
+pub third-demand : EveryRun (machine Agreement) Agreement (Demand (machine Agreement))
+third-demand = demand-carried (itself Agreement (machine Agreement) (plain Agreement) (λ c. extra-keeps c Agreement)) (λ n m H held out inbox R. in-turn R)

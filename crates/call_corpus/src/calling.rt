@@ -1,10 +1,9 @@
 // The calls by the kind of a case.
-use column_bytes::blocks;
 use column_bytes::columns;
-use column_bytes::postings;
-use column_bytes::walls;
+use wall_bytes::blocks;
+use wall_bytes::walls;
 
-// The numbers of a case: columns of the wall, bytes of a record, which column or round, and the poster.
+// The numbers of a case: columns of the wall, bytes of a record, which column or round, and the poster or, for rounds and values, the protocol.
 pub(super) struct Numbers {
     pub(super) n: u32,
     pub(super) m: u32,
@@ -26,20 +25,16 @@ pub(super) fn call(
     w: &mut [u16],
 ) -> usize {
     match kind {
-        0 => columns::column_rounds(x.n),
-        1 => columns::column_values(x.n, x.m, x.which),
-        2 => postings::posting_values(x.n, x.m, x.which),
-        3 => wide(columns::column_fresh(x.n, x.m, x.which, a, b)),
+        0 => columns::column_rounds(x.poster, x.n),
+        1 => columns::column_values(x.poster, x.n, x.m, x.which),
+        2 => wide(columns::column_fresh(x.n, x.m, x.which, a, b)),
+        3 => wide(columns::posting_fresh(x.n, x.m, x.which, x.poster, a, b)),
         4 => wide(columns::column_speak(b, v)),
         5 => wide(columns::column_listen(b, v)),
         6 => wide(columns::column_outcome(a, b)),
         7 => wide(walls::column_wall(a, b)),
-        8 => wide(postings::posting_fresh(x.n, x.m, x.which, x.poster, a, b)),
-        9 => wide(postings::posting_speak(b, v)),
-        10 => wide(postings::posting_listen(b, v)),
-        11 => wide(postings::posting_outcome(a, b)),
-        12 => wide(walls::posting_wall(x.poster, a, b)),
-        13 => wide(blocks::column_decode(x.n, v, w)),
+        8 => wide(walls::posting_wall(x.poster, a, b)),
+        9 => wide(blocks::column_decode(x.n, v, w)),
         _ => 255,
     }
 }

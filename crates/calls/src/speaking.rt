@@ -1,19 +1,16 @@
 // What a column says in a round of its run.
 use super::answered;
-use super::kinds;
-use super::votes;
 use agreement::Answered;
 use agreement::Column;
 use agreement::Stage;
-use sizes::Protocol;
 ghost use mathlib.Core.Path.{_≡_};
 ghost use Rattle.agreement.specs.Calls.{speak as speakOf, written};
 
 // Writes the messages of the round, unless the call is refused: then nothing is written, and the state stays as it came.
-pub(super) fn speak(protocol: Protocol, column: Column, out: &mut [u16]) -> Answered
-    ensures { λ r. ⌜ (r ≡ speakOf protocol column (now (out .entry))) × (now (out .exit) ≡ written protocol column (now (out .entry))) ⌝ }
+pub(super) fn speak(column: Column, out: &mut [u16]) -> Answered
+    ensures { λ r. ⌜ (r ≡ speakOf column (now (out .entry))) × (now (out .exit) ≡ written column (now (out .entry))) ⌝ }
 {
-    let why = refusals::to_speak(protocol, column, out.len());
+    let why = refusals::to_speak(column, out.len());
     let stage = column.stage;
     let round = refusals::round_of(stage);
     let spoken = Column {
@@ -23,10 +20,7 @@ pub(super) fn speak(protocol: Protocol, column: Column, out: &mut [u16]) -> Answ
     if why != 0 {
         return answered(why, spoken, column);
     }
-    rounds::say(
-        kinds::kind_in(protocol, column.n, round),
-        votes::voting(protocol, column),
-        out,
-    );
+    let protocol = column.protocol;
+    rounds::say(protocols::kind_in(protocol, column.n, round), column, out);
     answered(why, spoken, column)
 }

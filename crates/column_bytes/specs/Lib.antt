@@ -1,6 +1,8 @@
--- The calls for C and Rust. Calls: the definitions, what each call answers and what it leaves in each slice. Refused: a refused call leaves every slice
--- as it was. Lists: a list of calls on bytes is one of calls on columns, so what is proved of those holds of these. Laws: for the code.
+-- The calls for C and Rust, on bytes.
+-- Calls: the definitions. Machine: the calls as a machine. Theorem: THE THEOREMS of every run of them, `bytes-demand` and `bytes-posted`. Refused: a
+-- refused call leaves every lent slice as it was. Laws: for the code.
 pub mod Calls
-pub mod Refused
-pub mod Lists
+pub mod Machine
 pub mod Laws
+pub mod Refused
+pub mod Theorem

@@ -3,9 +3,10 @@
 // something else. A line is what a column answers for its outcome, column 1 also before the run. Then a column of a posting is played by itself.
 mod posted;
 
-use column::Column;
-use column::Outcome;
-use column::Reply;
+use calls::Column;
+use calls::Outcome;
+use calls::Protocol;
+use calls::Reply;
 use field::Field;
 use libc::STDOUT_FILENO;
 ghost use Prim.Native.Nat.{_≤_};
@@ -27,24 +28,24 @@ struct Turn {
 // A fresh column with a record of one byte.
 fn made(own: u8, byte: u8) -> Column {
     let record = [byte];
-    let answered = column::fresh(4, 1, own, &record);
+    let answered = calls::fresh(Protocol::Agreement, 4, 1, own, &record);
     answered.column
 }
 
-// The values of a message: two in the exchange, one in every other round.
-fn width(round: u8) -> usize
+// The values of a message: two in the exchange, which is one round, and one in every other.
+fn width(exchange: u8, round: u8) -> usize
     ensures { λ r. ⌜ r ≤ 2 ⌝ }
 {
-    if round == 1 {
+    if round == exchange {
         return 2;
     }
     1
 }
 
-fn spoken(column: Column, round: u8) -> Turn {
+fn spoken(column: Column, exchange: u8, round: u8) -> Turn {
     let mut out = [Field::BLANK; 8];
-    let len = 4 * width(round);
-    let answered = column::speak(column, &mut out[..len]);
+    let len = 4 * width(exchange, round);
+    let answered = calls::speak(column, &mut out[..len]);
     let after = answered.column;
     Turn {
         column: after,
@@ -52,9 +53,9 @@ fn spoken(column: Column, round: u8) -> Turn {
     }
 }
 
-fn listened(column: Column, round: u8, inbox: [u16; 8]) -> Column {
-    let len = 4 * width(round);
-    let answered = column::listen(column, &inbox[..len]);
+fn listened(column: Column, exchange: u8, round: u8, inbox: [u16; 8]) -> Column {
+    let len = 4 * width(exchange, round);
+    let answered = calls::listen(column, &inbox[..len]);
     answered.column
 }
 
@@ -114,10 +115,10 @@ fn fourth(lying: bool, round: u8, out: [u16; 8]) -> [u16; 8] {
 
 // One round: each column speaks, then each listens.
 fn played(wall: Wall, round: u8, lying: bool) -> Wall {
-    let a = spoken(wall.a, round);
-    let b = spoken(wall.b, round);
-    let c = spoken(wall.c, round);
-    let d = spoken(wall.d, round);
+    let a = spoken(wall.a, 1, round);
+    let b = spoken(wall.b, 1, round);
+    let c = spoken(wall.c, 1, round);
+    let d = spoken(wall.d, 1, round);
     let from_a = a.out;
     let from_b = b.out;
     let from_c = c.out;
@@ -126,21 +127,25 @@ fn played(wall: Wall, round: u8, lying: bool) -> Wall {
     Wall {
         a: listened(
             a.column,
+            1,
             round,
             delivered(0, round, from_a, from_b, from_c, from_d),
         ),
         b: listened(
             b.column,
+            1,
             round,
             delivered(1, round, from_a, from_b, from_c, from_d),
         ),
         c: listened(
             c.column,
+            1,
             round,
             delivered(2, round, from_a, from_b, from_c, from_d),
         ),
         d: listened(
             d.column,
+            1,
             round,
             delivered(3, round, from_a, from_b, from_c, from_d),
         ),
@@ -180,7 +185,7 @@ fn write_line(column: Column) {
     io::print_decimal(STDOUT_FILENO, column.grade as u64);
     io::write_all(STDOUT_FILENO, b" bit ");
     io::print_decimal(STDOUT_FILENO, column.vote as u64);
-    let asked = column::outcome(column);
+    let asked = calls::outcome(column);
     let reply = asked.reply;
     let bytes = asked.bytes;
     write_reply(reply, bytes);

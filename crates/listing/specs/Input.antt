@@ -3,7 +3,7 @@ use mathlib.Core.Path.{_≡_}
 use mathlib.Core.List.{List}
 use Prim.Native.Nat.{ℕ, min}
 use lib.ListN.{length, take, replicate}
-use Rattle.sizes.specs.declared.Protocol.{Protocol}
+use Rattle.protocols.specs.declared.Protocol.{Protocol}
 use Rattle.listing.specs.declared.Printed.{Printed}
 use Rattle.listing.specs.Listing.{listingOf, shown}
 

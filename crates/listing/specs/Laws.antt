@@ -9,11 +9,12 @@ use borrow.Author.Tests.{lt-ltb, le-ltb}
 use lib.Dec.{eqb, ltb}
 use lib.ListN.{length, take, getD, length-append}
 use lib.Seq.{take-suc, take-length}
-use Rattle.wall_run.specs.declared.Entry.{Entry}
+use Rattle.agreement.specs.declared.Entry.{Entry}
 use Rattle.wall_run.specs.declared.Outcomes.{Outcomes}
 use Rattle.wall_run.specs.Row.{entryAt}
-use Rattle.sizes.specs.declared.Protocol.{Protocol}
-use Rattle.sizes.specs.Sizes.{faults, degree, blocks, roundsIn}
+use Rattle.protocols.specs.declared.Protocol.{Protocol}
+use Rattle.sizes.specs.Sizes.{faults, degree, blocks}
+use Rattle.protocols.specs.Protocols.{roundsIn}
 use Rattle.listing.specs.Listing.{ascii, joined, digit, decimal, named, hex, hexAt, hexes, sizesLine, recordText, soundLine, unsoundLine, columnLine, lineAt, columnLines, refusedLine, listing}
 
 -- NUMBERS, by their size

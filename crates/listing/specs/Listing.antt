@@ -6,13 +6,14 @@ use Prim.Native.Char.{code}
 use Prim.Native.String.{String, [] as end, _∷_ as _then_}
 use lib.Dec.{eqb, ltb}
 use lib.ListN.{length, take, drop, getD}
-use Rattle.wall_run.specs.declared.Entry.{Entry}
+use Rattle.agreement.specs.declared.Entry.{Entry}
 use Rattle.wall_run.specs.declared.Outcomes.{Outcomes}
 use Rattle.wall_run.specs.Run.{outcomes}
 use Rattle.wall_run.specs.Row.{entryAt}
 use Rattle.sheet.specs.Sheet.{columns, bytes}
-use Rattle.sizes.specs.declared.Protocol.{Protocol}
-use Rattle.sizes.specs.Sizes.{faults, degree, blocks, roundsIn}
+use Rattle.protocols.specs.declared.Protocol.{Protocol}
+use Rattle.sizes.specs.Sizes.{faults, degree, blocks}
+use Rattle.protocols.specs.Protocols.{roundsIn}
 
 -- WORDS AND NUMBERS
 

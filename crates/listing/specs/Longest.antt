@@ -14,10 +14,12 @@ use lib.Seq.{take-all, length-take-le, getD-take}
 use Rattle.lists.specs.Lists.{all}
 use Rattle.lists.specs.Entries.{all-same}
 use Rattle.lists.specs.Count.{count-same}
-use Rattle.sizes.specs.declared.Protocol.{Protocol}
-use Rattle.sizes.specs.declared.Protocol.the-variants.{Agreement, Posting}
-use Rattle.sizes.specs.Sizes.{faults, degree, blocks, lineIn, refusal as refusalOfSizes, beside}
+use Rattle.protocols.specs.declared.Protocol.{Protocol}
+use Rattle.protocols.specs.declared.Protocol.the-variants.{Agreement, Posting}
+use Rattle.sizes.specs.Sizes.{faults, degree, blocks, refusal as refusalOfSizes}
 use Rattle.sizes.specs.Laws.{InRange, Sized, sized, accepted as accepted-sizes}
+use Rattle.protocols.specs.Protocols.{lineIn, beside}
+use Rattle.protocols.specs.Laws.{line-agreement, line-posting}
 use Rattle.sheet.specs.Sheet.{columns, bytes, mark, unsound, unsoundTo, arrays, whole, markFits, inOrder, refusalOfMarks, refusal as refusalOfSheet}
 use Rattle.wall_run.specs.Run.{refusal}
 use Rattle.wall_run.specs.Row.{accepted-run, run-refused}
@@ -34,9 +36,8 @@ bounded line n m u N T L r few hn ht hl =
 
 -- the values of a line, of at most T unsound columns and B blocks
 line-le : (p : Protocol) (n m T B rest : ℕ) → InRange n m → faults n ≤ T → blocks n m ≤ B → 3 * T + 5 ≤ rest → 34 ≤ rest → lineIn p n m ≤ 4 * B + rest
-unfolding lineIn
-line-le Agreement n m T B rest r ht hb a b = omega (arith, sized n m r .line-is)
-line-le (Posting s) n m T B rest r ht hb a b = omega (arith, r .bytes-high)
+line-le Agreement n m T B rest r ht hb a b = omega (arith, line-agreement n m)
+line-le (Posting s) n m T B rest r ht hb a b = omega (arith, line-posting n m s, r .bytes-high)
 
 -- by the degree of a block: with more columns there are fewer blocks
 whole-le : (p : Protocol) (n m u : ℕ) → InRange n m → u ≤ faults n → whole (lineIn p n m) n m u ≤ 42565

@@ -8,7 +8,7 @@ use native.Mathlib.Omega.{arith}
 use borrow.Author.Tests.{ne-eqb}
 use lib.ListN.{length, take, drop, replicate}
 use lib.Seq.{take-append-seam}
-use Rattle.sizes.specs.declared.Protocol.{Protocol}
+use Rattle.protocols.specs.declared.Protocol.{Protocol}
 use Rattle.sheet.specs.Sheet.{columns, bytes}
 use Rattle.wall_run.specs.Run.{refusal, refused, settled}
 use Rattle.wall_run.specs.Row.{accepted-run, by-refusal}

@@ -1,8 +1,10 @@
 // The listing of a wall as bytes: a line of its sizes and one for each column, or the one line of a refused run.
+pub mod console;
 mod lines;
+pub mod numbers;
 mod text;
 
-use sizes::Protocol;
+use protocols::Protocol;
 use wall_run::Outcomes;
 ghost use mathlib.Core.Path.{_≡_};
 ghost use mathlib.Core.List.{List};

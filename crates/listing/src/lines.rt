@@ -1,6 +1,6 @@
 // The lines of a listing.
 use super::text;
-use sizes::Protocol;
+use protocols::Protocol;
 use wall_run::Entry;
 use wall_run::Outcomes;
 ghost use Rattle.listing.specs.Listing.{sizesLine, recordText, soundLine, unsoundLine, columnLine, lineAt, columnLines, refusedLine};
@@ -15,7 +15,7 @@ pub(super) fn put_sizes(out: &mut [u8], at: usize, protocol: Protocol, n: u8, m:
     let at = text::put_named(out, at, b" t ", sizes::faults(n));
     let at = text::put_named(out, at, b" d ", sizes::degree(n));
     let at = text::put_named(out, at, b" blocks ", sizes::blocks(n, m));
-    let at = text::put_named(out, at, b" rounds ", sizes::rounds_in(protocol, n));
+    let at = text::put_named(out, at, b" rounds ", protocols::rounds_in(protocol, n));
     text::put(out, at, b"\n")
 }
 

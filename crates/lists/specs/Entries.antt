@@ -63,6 +63,12 @@ pub sum-more : (f : ℕ → ℕ) (n : ℕ) → sum f (n + 1) ≡ sum f n + f (n 
 unfolding sum
 sum-more f n = rw add-one
 
+-- the first summand in front
+pub sum-front : (f : ℕ → ℕ) (n : ℕ) → sum f (suc n) ≡ f 1 + sum (λ i. f (suc i)) n
+unfolding sum
+sum-front f zero = omega arith
+sum-front f (suc n) = omega (arith, sum-front f n)
+
 pub sum-same : (f g : ℕ → ℕ) (n : ℕ) → ((i : ℕ) → 1 ≤ i → i ≤ n → f i ≡ g i) → sum f n ≡ sum g n
 unfolding sum
 sum-same f g zero h = refl

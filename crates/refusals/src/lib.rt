@@ -1,10 +1,10 @@
-// The refusals of a column's calls, in an agreement and in a posting, as document 01 numbers and orders them; 0 for none. Those of the state
+// The refusals of a column's calls, in every protocol, as document 01 numbers and orders them; 0 for none. Those of the state
 // stand before that of a slice.
 mod ranges;
 
 use agreement::Column;
 use agreement::Stage;
-use sizes::Protocol;
+use protocols::Protocol;
 ghost use mathlib.Core.Path.{_≡_};
 ghost use Rattle.agreement.specs.Calls.{orElse, freshRefusal, roundOf, whenSpeaking, whenListening, whenAsked, inState, inRound, speakRefusal, listenRefusal, outcomeRefusal};
 
@@ -24,7 +24,7 @@ pub fn to_make(protocol: Protocol, n: u8, m: u8, own: u8, len: usize) -> u8
 {
     let names = or_else(
         sizes::refusal(n, m, own),
-        sizes::refusal(n, m, sizes::beside(protocol)),
+        sizes::refusal(n, m, protocols::beside(protocol)),
     );
     messages::refusal(names, 1, m as u16, len)
 }
@@ -74,44 +74,45 @@ fn when_asked(stage: Stage) -> u8
 }
 
 // 11 for a state out of its ranges, before the refusal that the stage gives.
-fn in_state(protocol: Protocol, column: Column, why: u8) -> u8
-    ensures { λ r. ⌜ r ≡ inState protocol column why ⌝ }
+fn in_state(column: Column, why: u8) -> u8
+    ensures { λ r. ⌜ r ≡ inState column why ⌝ }
 {
-    if ranges::fits(protocol, column) {
+    if ranges::fits(column) {
         return why;
     }
     11
 }
 
 // And 4 after both, for a slice that is not as long as the round's messages.
-fn in_round(protocol: Protocol, column: Column, why: u8, len: usize) -> u8
-    ensures { λ r. ⌜ r ≡ inRound protocol column why len ⌝ }
+fn in_round(column: Column, why: u8, len: usize) -> u8
+    ensures { λ r. ⌜ r ≡ inRound column why len ⌝ }
 {
+    let protocol = column.protocol;
     let stage = column.stage;
-    let w = sizes::values_in(protocol, column.n, column.m, round_of(stage));
-    messages::refusal(in_state(protocol, column, why), column.n, w as u16, len)
+    let w = protocols::values_in(protocol, column.n, column.m, round_of(stage));
+    messages::refusal(in_state(column, why), column.n, w, len)
 }
 
 // Of a call to speak with a slice of `len` values: 11, 10, 7, then 4.
-pub fn to_speak(protocol: Protocol, column: Column, len: usize) -> u8
-    ensures { λ r. ⌜ r ≡ speakRefusal protocol column len ⌝ }
+pub fn to_speak(column: Column, len: usize) -> u8
+    ensures { λ r. ⌜ r ≡ speakRefusal column len ⌝ }
 {
     let stage = column.stage;
-    in_round(protocol, column, when_speaking(stage), len)
+    in_round(column, when_speaking(stage), len)
 }
 
 // Of a call to listen with a slice of `len` values: 11, 10, 8, then 4.
-pub fn to_listen(protocol: Protocol, column: Column, len: usize) -> u8
-    ensures { λ r. ⌜ r ≡ listenRefusal protocol column len ⌝ }
+pub fn to_listen(column: Column, len: usize) -> u8
+    ensures { λ r. ⌜ r ≡ listenRefusal column len ⌝ }
 {
     let stage = column.stage;
-    in_round(protocol, column, when_listening(stage), len)
+    in_round(column, when_listening(stage), len)
 }
 
 // Of a call for the outcome: 11, then 9.
-pub fn to_ask(protocol: Protocol, column: Column) -> u8
-    ensures { λ r. ⌜ r ≡ outcomeRefusal protocol column ⌝ }
+pub fn to_ask(column: Column) -> u8
+    ensures { λ r. ⌜ r ≡ outcomeRefusal column ⌝ }
 {
     let stage = column.stage;
-    in_state(protocol, column, when_asked(stage))
+    in_state(column, when_asked(stage))
 }

@@ -2,7 +2,6 @@
 use agreement::Column;
 use agreement::Stage;
 use field::Field;
-use sizes::Protocol;
 ghost use mathlib.Core.Path.{_≡_};
 ghost use mathlib.Core.Bool.{not, _&&_, _||_};
 ghost use Prim.Native.Nat.{_≤_};
@@ -32,24 +31,26 @@ fn stage_fits(last: usize, stage: Stage) -> bool
 }
 
 // The own and the poster's number, each with the sizes.
-fn names_fit(protocol: Protocol, column: Column) -> bool
-    ensures { λ r. ⌜ r ≡ namesFit protocol column ⌝ }
+fn names_fit(column: Column) -> bool
+    ensures { λ r. ⌜ r ≡ namesFit column ⌝ }
 {
     if sizes::refusal(column.n, column.m, column.own) != 0 {
         return false;
     }
-    sizes::refusal(column.n, column.m, sizes::beside(protocol)) == 0
+    let protocol = column.protocol;
+    sizes::refusal(column.n, column.m, protocols::beside(protocol)) == 0
 }
 
 // The numbers of a state.
-fn numbers_fit(protocol: Protocol, column: Column) -> bool
-    ensures { λ r. ⌜ r ≡ numbersFit protocol column ⌝ }
+fn numbers_fit(column: Column) -> bool
+    ensures { λ r. ⌜ r ≡ numbersFit column ⌝ }
 {
-    if !names_fit(protocol, column) {
+    if !names_fit(column) {
         return false;
     }
+    let protocol = column.protocol;
     let stage = column.stage;
-    if !stage_fits(sizes::rounds_in(protocol, column.n), stage) {
+    if !stage_fits(protocols::rounds_in(protocol, column.n), stage) {
         return false;
     }
     if 3 <= column.grade {
@@ -148,10 +149,10 @@ fn arrays_fit(column: Column) -> bool
 }
 
 // Whether every part of the state is in its range.
-pub(super) fn fits(protocol: Protocol, column: Column) -> bool
-    ensures { λ r. ⌜ r ≡ fitsOf protocol column ⌝ }
+pub(super) fn fits(column: Column) -> bool
+    ensures { λ r. ⌜ r ≡ fitsOf column ⌝ }
 {
-    if !numbers_fit(protocol, column) {
+    if !numbers_fit(column) {
         return false;
     }
     arrays_fit(column)

@@ -12,7 +12,7 @@ use Rattle.dissemination.specs.Decoding.{disseminated-answer}
 use Rattle.agreement.specs.declared.Outcome.the-variants.{Nothing, Record}
 use Rattle.agreement.specs.declared.Stage.the-variants.{Ended}
 use Rattle.agreement.specs.declared.Column.{Column}
-use Rattle.agreement.specs.declared.Kind.the-variants.{KeptPoints}
+use Rattle.protocols.specs.declared.Kind.the-variants.{KeptPoints}
 use Rattle.agreement.specs.Parts.{withStage, withBytes}
 use Rattle.agreement.specs.Rounds.{votesOne, message, outcomeOf, endsOn}
 

@@ -1,66 +1,28 @@
 -- What is known behind the refusals: the slice has the length of the round's messages, by the round's kind; so the building blocks refuse
 -- nothing either.
-use mathlib.Core.Path.{_≡_, refl, sym, ap, _∙_}
-use mathlib.Core.Bool.{Bool, true, false, cond, true≢false}
-use mathlib.Core.List.{List, [], _∷_}
+use mathlib.Core.Path.{_≡_, refl, ap, _∙_}
+use mathlib.Core.List.{List}
 use Prim.Native.Nat.{ℕ, _*_}
 use borrow.Author.Tests.{eq-eqb, ne-eqb}
 use lib.Dec.{eqb}
 use lib.ListN.{length}
-use Rattle.lists.specs.Rows.{rowsOf-same}
-use Rattle.field.specs.Field.{blank}
 use Rattle.sizes.specs.Sizes.{blocks, refusal}
 use Rattle.sizes.specs.Laws.{columns-of, first-column}
-use Rattle.messages.specs.Messages.{said, toAll, toAllRefusal}
+use Rattle.messages.specs.Messages.{toAll, toAllRefusal}
 use Rattle.messages.specs.Laws.{toAll-same, not-refused, accepted}
 use Rattle.dispersal.specs.Dispersal.{exchangeRefusal}
 use Rattle.dissemination.specs.Dissemination.{spoken, roundRefusal as pointsRefusal}
 use Rattle.dissemination.specs.Laws.{silenced, said-silenced}
 use Rattle.agreement.specs.declared.Stage.{Stage}
 use Rattle.agreement.specs.declared.Column.{Column}
-use Rattle.agreement.specs.declared.Kind.{Kind}
-use Rattle.agreement.specs.declared.Kind.the-variants.{Exchange, FirstReport, SecondReport, Votes, Proposals, King, Points, KeptPoints, Post}
+use Rattle.protocols.specs.declared.Kind.{Kind}
+use Rattle.protocols.specs.declared.Kind.the-variants.{Exchange, Post}
+use Rattle.protocols.specs.Protocols.{width}
 use Rattle.agreement.specs.declared.Answer.the-variants.{Done, Refused}
 use Rattle.agreement.specs.declared.Answered.{Answered}
 use Rattle.agreement.specs.Rounds.{message, hears}
 use Rattle.agreement.specs.Calls.{answered, answerOf}
-use Rattle.rounds.specs.Rounds.{width, toColumns, roundRefusal, heardIn}
-
--- ROUNDS OF ONE VALUE
-
-unfoldable pub hasOne : Kind → Bool
-hasOne Exchange = false
-hasOne FirstReport = true
-hasOne SecondReport = true
-hasOne Votes = true
-hasOne Proposals = true
-hasOne (King king) = true
-hasOne Points = false
-hasOne KeptPoints = false
-hasOne (Post s) = false
-
--- the value; blank in a round of more
-unfoldable pub word : Kind → Column → ℕ
-word kind c = cond (hasOne kind) (said (message kind c (c .own)) 0) blank
-
--- it is the whole message to every column
-pub one-word : (kind : Kind) (c : Column) → hasOne kind ≡ true → (width (c .n) (c .m) kind ≡ 1) × ((j : ℕ) → message kind c j ≡ word kind c ∷ [])
-unfolding hasOne width word said message
-one-word Exchange c h = absurd (true≢false (sym h))
-one-word FirstReport c h = (refl, λ j. refl)
-one-word SecondReport c h = (refl, λ j. refl)
-one-word Votes c h = (refl, λ j. refl)
-one-word Proposals c h = (refl, λ j. refl)
-one-word (King king) c h = (refl, λ j. refl)
-one-word Points c h = absurd (true≢false (sym h))
-one-word KeptPoints c h = absurd (true≢false (sym h))
-one-word (Post s) c h = absurd (true≢false (sym h))
-
-pub word-to-all : (kind : Kind) (c : Column) → hasOne kind ≡ true → toAll (c .n) 1 (word kind c ∷ []) ≡ toColumns kind c
-unfolding toAll toColumns
-word-to-all kind c h =
-    let one = one-word kind c h in
-    rw (one .0) (rowsOf-same (λ j. said (word kind c ∷ [])) (λ j. said (message kind c j)) 1 (c .n) (λ j k _ _ _. ap (λ (l : List ℕ). said l k) (sym (one .1 j))))
+use Rattle.rounds.specs.Rounds.{toColumns, roundRefusal, heardIn}
 
 -- BEHIND THE REFUSALS
 
@@ -90,9 +52,10 @@ module _ (c : Column) (len : ℕ) where
   unfolding width
   exchange-accepted r = not-refused (refusal (c .n) (c .m) (c .own)) (c .n) (2 * blocks (c .n) (c .m)) len (r .sizes) (r .full)
 
-  pub word-accepted : (kind : Kind) → hasOne kind ≡ true → Ready kind c len → toAllRefusal (c .n) 1 len ≡ 0
-  word-accepted kind h r =
-      not-refused (refusal (c .n) 1 1) (c .n) 1 len (columns-of (c .n) (c .m) (c .own) (r .sizes)) (r .full ∙ ap (λ (w : ℕ). c .n * w) (one-word kind c h .0))
+  -- in a round of one value
+  pub word-accepted : (kind : Kind) → width (c .n) (c .m) kind ≡ 1 → Ready kind c len → toAllRefusal (c .n) 1 len ≡ 0
+  word-accepted kind e r =
+      not-refused (refusal (c .n) 1 1) (c .n) 1 len (columns-of (c .n) (c .m) (c .own) (r .sizes)) (r .full ∙ ap (λ (w : ℕ). c .n * w) e)
 
   -- in the two rounds of dissemination, to listen and to speak
   pub points-heard : (kind : Kind) → width (c .n) (c .m) kind ≡ blocks (c .n) (c .m) → Ready kind c len → pointsRefusal (c .n) (c .m) (c .own) len ≡ 0

@@ -1,29 +1,17 @@
--- The definitions of one round by its kind: how long its messages are, what is said, what is refused, and what a column becomes.
+-- The definitions of one round by its kind: what is said, what is refused, and what a column becomes.
 use mathlib.Core.List.{List}
-use Prim.Native.Nat.{ℕ, _*_}
+use Prim.Native.Nat.{ℕ}
 use lib.ListN.{length}
 use Rattle.lists.specs.Lists.{rowsOf}
-use Rattle.sizes.specs.Sizes.{blocks, refusal as refusalOfSizes}
+use Rattle.sizes.specs.Sizes.{refusal as refusalOfSizes}
 use Rattle.messages.specs.Messages.{said, refusal}
 use Rattle.agreement.specs.declared.Stage.{Stage}
 use Rattle.agreement.specs.declared.Column.{Column}
-use Rattle.agreement.specs.declared.Kind.{Kind}
-use Rattle.agreement.specs.declared.Kind.the-variants.{Exchange, FirstReport, SecondReport, Votes, Proposals, King, Points, KeptPoints, Post}
+use Rattle.protocols.specs.declared.Kind.{Kind}
+use Rattle.protocols.specs.Protocols.{width}
 use Rattle.agreement.specs.declared.Answered.{Answered}
 use Rattle.agreement.specs.Rounds.{message, hears}
 use Rattle.agreement.specs.Calls.{answered}
-
--- the values of a message in a round of the kind
-unfoldable pub width : ℕ → ℕ → Kind → ℕ
-width n m Exchange = 2 * blocks n m
-width n m FirstReport = 1
-width n m SecondReport = 1
-width n m Votes = 1
-width n m Proposals = 1
-width n m (King king) = 1
-width n m Points = blocks n m
-width n m KeptPoints = blocks n m
-width n m (Post s) = m
 
 -- "one message to each column, itself included", "by column number": what column c says to all columns
 unfoldable pub toColumns : Kind → Column → List ℕ

@@ -3,7 +3,7 @@ use agreement::Column;
 use agreement::Stage;
 ghost use mathlib.Core.Path.{_≡_};
 ghost use lib.ListN.{length};
-ghost use Rattle.agreement.specs.declared.Kind.the-variants.{Exchange};
+ghost use Rattle.protocols.specs.declared.Kind.the-variants.{Exchange};
 ghost use Rattle.agreement.specs.Rounds.{hears};
 ghost use Rattle.rounds.specs.Rounds.{toColumns};
 ghost use Rattle.rounds.specs.Ready.{Ready};

@@ -7,39 +7,18 @@ mod post;
 mod reports;
 mod speaking;
 mod spreading;
+mod votes;
 mod words;
 
 use agreement::Answer;
 use agreement::Answered;
 use agreement::Column;
-use agreement::Kind;
 use agreement::Stage;
+use protocols::Kind;
 ghost use mathlib.Core.Path.{_≡_};
-ghost use Prim.Native.Nat.{_≤_};
 ghost use lib.ListN.{length};
-ghost use Rattle.sizes.specs.Sizes.{blocks as blocksOf};
 ghost use Rattle.messages.specs.Messages.{unlessRefused};
-ghost use Rattle.rounds.specs.Rounds.{width as widthOf, toColumns, roundRefusal, heardIn};
-
-// The blocks of a record, as values are counted.
-fn blocks(n: u8, m: u8) -> u16
-    ensures { λ r. ⌜ (r ≡ blocksOf n m) × (r ≤ 255) ⌝ }
-{
-    sizes::blocks(n, m) as u16
-}
-
-// The values of a message in a round of the kind.
-fn width(kind: Kind, n: u8, m: u8) -> u16
-    ensures { λ r. ⌜ r ≡ widthOf n m kind ⌝ }
-{
-    match kind {
-        Kind::Exchange => 2 * blocks(n, m),
-        Kind::Points => blocks(n, m),
-        Kind::KeptPoints => blocks(n, m),
-        Kind::Post(_) => m as u16,
-        _ => 1,
-    }
-}
+ghost use Rattle.rounds.specs.Rounds.{toColumns, roundRefusal, heardIn};
 
 // The refusal of a column with a slice of `len` values: 1, 2, 3 for the sizes and the own number, 4 for the length, or 0.
 fn refusal(kind: Kind, column: Column, len: usize) -> u8
@@ -48,7 +27,7 @@ fn refusal(kind: Kind, column: Column, len: usize) -> u8
     messages::refusal(
         sizes::refusal(column.n, column.m, column.own),
         column.n,
-        width(kind, column.n, column.m),
+        protocols::width(kind, column.n, column.m),
         len,
     )
 }

@@ -3,7 +3,7 @@ use super::words::received;
 use agreement::Column;
 use agreement::Stage;
 ghost use mathlib.Core.Path.{_≡_};
-ghost use Rattle.agreement.specs.declared.Kind.the-variants.{Votes, Proposals, King};
+ghost use Rattle.protocols.specs.declared.Kind.the-variants.{Votes, Proposals, King};
 ghost use Rattle.agreement.specs.Rounds.{kingSaid, hears};
 
 // The votes give the proposal.

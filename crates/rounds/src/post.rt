@@ -8,7 +8,7 @@ ghost use lib.ListN.{length};
 ghost use Rattle.lists.specs.Lists.{all};
 ghost use Rattle.messages.specs.Messages.{readByte};
 ghost use Rattle.dissemination.specs.Laws.{silenced};
-ghost use Rattle.agreement.specs.declared.Kind.the-variants.{Post};
+ghost use Rattle.protocols.specs.declared.Kind.the-variants.{Post};
 ghost use Rattle.agreement.specs.Post.{postedBy, sentByte, postedByte, takenRecord, posted as postedOf};
 ghost use Rattle.agreement.specs.Rounds.{hears};
 ghost use Rattle.rounds.specs.Rounds.{toColumns};

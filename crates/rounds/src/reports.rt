@@ -1,11 +1,12 @@
 // Rounds 2 and 3 of an agreement, 3 and 4 of a posting: the reports, and the grade that the second ones give.
+use super::votes::vote_after;
 use super::words::first_report;
 use super::words::received;
 use super::words::second_report;
 use agreement::Column;
 use agreement::Stage;
 ghost use mathlib.Core.Path.{_≡_};
-ghost use Rattle.agreement.specs.declared.Kind.the-variants.{FirstReport, SecondReport};
+ghost use Rattle.protocols.specs.declared.Kind.the-variants.{FirstReport, SecondReport};
 ghost use Rattle.agreement.specs.Rounds.{firstVote, hears};
 
 // Which first reports came.
@@ -39,9 +40,10 @@ pub(super) fn hear_second(column: Column, next: Stage, inbox: &[u16]) -> Column
     let agreements = column.agreements;
     let reports = column.reports;
     let grade = dispersal::reports::grade(column.n, column.own, agreements, reports, values);
+    let protocol = column.protocol;
     Column {
         grade: grade,
-        vote: first_vote(grade),
+        vote: vote_after(protocol, column.vote, first_vote(grade)),
         stage: next,
         ..column
     }

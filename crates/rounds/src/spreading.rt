@@ -1,21 +1,23 @@
 // Rounds 3t + 7 and 3t + 8 of an agreement, 5 and 6 of a posting: dissemination, and the end.
+use super::votes::vote_in;
 use agreement::Column;
 use agreement::Outcome;
 use agreement::Stage;
 ghost use mathlib.Core.Path.{_≡_};
 ghost use lib.ListN.{length};
-ghost use Rattle.agreement.specs.declared.Kind.the-variants.{Points, KeptPoints};
+ghost use Rattle.protocols.specs.declared.Kind.the-variants.{Points, KeptPoints};
 ghost use Rattle.agreement.specs.declared.Stage.the-variants.{Ended};
 ghost use Rattle.agreement.specs.Parts.{withStage};
 ghost use Rattle.agreement.specs.Rounds.{votesOne, spreads as spreadsOf, outcomeOf, endsOn, hears};
 ghost use Rattle.rounds.specs.Rounds.{toColumns};
 ghost use Rattle.rounds.specs.Ready.{Ready};
 
-// The vote is 1.
+// The vote that the rounds read is 1.
 fn votes_one(column: Column) -> bool
     ensures { λ r. ⌜ r ≡ votesOne column ⌝ }
 {
-    column.vote == 1
+    let protocol = column.protocol;
+    vote_in(protocol, column.vote) == 1
 }
 
 // With vote 1 and grade 1 or 2 the column spreads its record.

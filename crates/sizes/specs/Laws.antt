@@ -1,17 +1,13 @@
--- The laws of the sizes: how large each can get, what an accepted wall has (`Sized`, `Accepted`), and that the values of all rounds are a line.
+-- The laws of the sizes: how large each can get, and what an accepted wall has (`Sized`, `Accepted`).
 use mathlib.Core.Path.{_≡_, refl}
 use mathlib.Core.Bool.{Bool, true, false, cond, _||_, true≢false}
 use mathlib.Core.Logic.{_⊎_, inl, inr}
-use Prim.Native.Nat.{ℕ, zero, suc, _+_, _-_, _*_, _/_, _≤_, _<_}
+use Prim.Native.Nat.{ℕ, _+_, _-_, _*_, _/_, _≤_, _<_}
 use native.Mathlib.Nat.{eq-zero-or-pos, div-mul-le-self, div-eq-of-lt, le-div-iff-mul-le, lt-div-mul-add, div-le-of-le-mul, mul-le-mul-left}
 use native.Mathlib.Omega.{arith}
-use borrow.Author.Tests.{ltb-false, lt-ltb, le-ltb, le-leb, lt-leb, eq-eqb, ne-eqb}
-use lib.Dec.{eqb, ltb, leb}
-use Rattle.lists.specs.Lists.{sum}
-use Rattle.lists.specs.Entries.{sum-more}
-use Rattle.sizes.specs.declared.Protocol.{Protocol}
-use Rattle.sizes.specs.declared.Protocol.the-variants.{Agreement, Posting}
-use Rattle.sizes.specs.Sizes.{faults, degree, blocks, rounds, values, line, outside, refusal, postingValues, roundsIn, valuesIn, lineIn}
+use borrow.Author.Tests.{ltb-false, lt-ltb, le-ltb}
+use lib.Dec.{ltb}
+use Rattle.sizes.specs.Sizes.{faults, degree, blocks, outside, refusal}
 
 -- BOUNDS OF ANY SIZES, IN RANGE OR NOT
 
@@ -26,14 +22,6 @@ blocks-le n m = go (eq-zero-or-pos m)
     go : (m ≡ 0) ⊎ (0 < m) → (m + degree n) / (degree n + 1) ≤ m
     go (inl z) = omega (arith, div-eq-of-lt {n = m + degree n} {m = degree n + 1} (omega arith))
     go (inr p) = div-le-of-le-mul (degree n + 1) (omega (arith, mul-le-mul-left (degree n) p))
-
-pub rounds-are : (n : ℕ) → rounds n ≡ 3 * faults n + 8
-unfolding rounds
-rounds-are n = refl
-
-pub line-le : (n m : ℕ) → line n m ≤ 4 * m + 3 * n + 5
-unfolding line
-line-le n m = omega (arith, blocks-le n m, faults-le n)
 
 -- THE SIZES OF A WALL
 
@@ -62,11 +50,9 @@ pub record Sized (n m : ℕ) : Type 0 where
   pub blocks-least : blocks n m * (degree n + 1) < m + degree n + 1
   pub blocks-low : 1 ≤ blocks n m
   pub blocks-high : blocks n m ≤ m
-  pub rounds-is : rounds n ≡ 3 * faults n + 8
-  pub line-is : line n m ≡ 4 * blocks n m + 3 * faults n + 5
 
 pub sized : (n m : ℕ) → InRange n m → Sized n m
-unfolding faults degree blocks rounds line
+unfolding faults degree blocks
 sized n m r =
     let enough : m < (m + degree n) / (degree n + 1) * (degree n + 1) + 1 = omega (arith, lt-div-mul-add {a = m + degree n} {b = degree n + 1} (omega arith)) in
     record {
@@ -82,74 +68,12 @@ sized n m r =
       blocks-least = omega (arith, div-mul-le-self (m + degree n) (degree n + 1));
       blocks-low = le-div-iff-mul-le {k = degree n + 1} {x = 1} {y = m + degree n} (omega arith) .1 (omega arith);
       blocks-high = blocks-le n m;
-      rounds-is = rounds-are n;
-      line-is = refl;
     }
 
 -- in range or not, nine of d are no more than n
 pub degree-le : (n : ℕ) → 9 * degree n ≤ n
 unfolding faults degree
 degree-le n = omega arith
-
--- THE VALUES OF A ROUND
-
-module _ (n m round : ℕ) where
-  pub values-before : round ≡ 0 → values n m round ≡ 0
-  unfolding values
-  values-before e = simp (eq-eqb round 0 e)
-
-  pub values-exchange : round ≡ 1 → values n m round ≡ 2 * blocks n m
-  unfolding values
-  values-exchange e = rw e
-
-  pub values-one : 1 < round → round + 2 ≤ rounds n → values n m round ≡ 1
-  unfolding values
-  values-one l h = simp (ne-eqb round 0 (omega arith), ne-eqb round 1 (omega arith), le-leb (round + 2) (rounds n) h)
-
-  pub values-blocks : 1 < round → rounds n < round + 2 → round ≤ rounds n → values n m round ≡ blocks n m
-  unfolding values
-  values-blocks l g h =
-      simp (ne-eqb round 0 (omega arith), ne-eqb round 1 (omega arith), lt-leb (round + 2) (rounds n) g, le-leb round (rounds n) h)
-
-  pub values-after : rounds n < round → values n m round ≡ 0
-  unfolding values rounds
-  values-after h =
-      simp (ne-eqb round 0 (omega arith), ne-eqb round 1 (omega arith), lt-leb (round + 2) (rounds n) (omega arith), lt-leb round (rounds n) h)
-
--- of any round
-pub values-le : (n m round : ℕ) → values n m round ≤ 2 * m + 1
-unfolding values
-values-le n m round = go (eqb round 0) (eqb round 1) (leb (round + 2) (rounds n)) (leb round (rounds n))
-  where
-    go : (a b c d : Bool) → cond a 0 (cond b (2 * blocks n m) (cond c 1 (cond d (blocks n m) 0))) ≤ 2 * m + 1
-    go true b c d = omega arith
-    go false true c d = omega (arith, blocks-le n m)
-    go false false true d = omega arith
-    go false false false true = omega (arith, blocks-le n m)
-    go false false false false = omega arith
-
--- the values of the exchange and of k rounds of one value
-values-first : (n m k : ℕ) → k + 3 ≤ rounds n → sum (values n m) (k + 1) ≡ 2 * blocks n m + k
-unfolding sum
-values-first n m zero h = rw (values-exchange n m 1 refl) (omega arith)
-values-first n m (suc k) h =
-    let e : suc k + 1 ≡ suc (k + 1) = omega arith in
-    rw e (omega (arith, values-first n m k (omega arith), values-one n m (suc (k + 1)) (omega arith) (omega arith)))
-
--- "the values of all rounds in order, 4B + 3t + 5 of them"
-pub values-all : (n m : ℕ) → sum (values n m) (rounds n) ≡ line n m
-unfolding rounds line
-values-all n m =
-    let k = 3 * faults n + 5 in
-    let e : rounds n ≡ k + 1 + 1 + 1 = omega arith in
-    rw e (omega (
-      arith,
-      sum-more (values n m) (k + 1 + 1),
-      sum-more (values n m) (k + 1),
-      values-first n m k (omega arith),
-      values-blocks n m (k + 1 + 1) (omega arith) (omega arith) (omega arith),
-      values-blocks n m (k + 1 + 1 + 1) (omega arith) (omega arith) (omega arith),
-    ))
 
 -- REFUSALS
 
@@ -237,44 +161,3 @@ pub columns-refused : (n : ℕ) → (n < 4) ⊎ (31 < n) → refusal n 1 1 ≡ 1
 unfolding refusal outside
 columns-refused n (inl h) = simp (lt-ltb n 4 h)
 columns-refused n (inr h) = simp (le-ltb n 4 (omega arith), lt-ltb 31 n h)
-
--- THE RUNS OF EACH PROTOCOL
-
-pub posting-values-le : (n m round : ℕ) → postingValues n m round ≤ 2 * m + 1
-unfolding postingValues
-posting-values-le n m round = go (eqb round 0) (eqb round 1) (eqb round 2) (leb round 4) (leb round 6)
-  where
-    go : (a b c d e : Bool) → cond a 0 (cond b m (cond c (2 * blocks n m) (cond d 1 (cond e (blocks n m) 0)))) ≤ 2 * m + 1
-    go true b c d e = omega arith
-    go false true c d e = omega arith
-    go false false true d e = omega (arith, blocks-le n m)
-    go false false false true e = omega arith
-    go false false false false true = omega (arith, blocks-le n m)
-    go false false false false false = omega arith
-
-pub values-in-le : (p : Protocol) (n m round : ℕ) → valuesIn p n m round ≤ 2 * m + 1
-unfolding valuesIn
-values-in-le Agreement n m round = values-le n m round
-values-in-le (Posting s) n m round = posting-values-le n m round
-
-pub line-in-le : (p : Protocol) (n m : ℕ) → lineIn p n m ≤ 5 * m + 3 * n + 5
-unfolding lineIn
-line-in-le Agreement n m = omega (arith, line-le n m)
-line-in-le (Posting s) n m = omega (arith, blocks-le n m)
-
-pub rounds-in-le : (p : Protocol) (n : ℕ) → roundsIn p n ≤ n + 8
-unfolding roundsIn rounds faults
-rounds-in-le Agreement n = omega arith
-rounds-in-le (Posting s) n = omega arith
-
--- a run has rounds
-pub rounds-in-some : (p : Protocol) (n : ℕ) → 6 ≤ roundsIn p n
-unfolding roundsIn
-rounds-in-some Agreement n = omega (arith, rounds-are n)
-rounds-in-some (Posting s) n = omega arith
-
--- the values of all rounds in order are a line
-pub values-in-all : (p : Protocol) (n m : ℕ) → sum (valuesIn p n m) (roundsIn p n) ≡ lineIn p n m
-unfolding roundsIn valuesIn lineIn sum postingValues
-values-in-all Agreement n m = values-all n m
-values-in-all (Posting s) n m = omega arith

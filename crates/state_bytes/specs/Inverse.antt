@@ -1,78 +1,70 @@
 -- What is written is read back (`decode-encode`, `encode-is-state`), and what reads as a state is written back (`encode-decode`). Of a column this
 -- asks no more than its arrays' lengths, so it holds of all states, in range or not.
 use mathlib.Core.Path.{_≡_, refl, sym, ap, _∙_}
-use mathlib.Core.Bool.{Bool, true, false, _&&_}
-use mathlib.Core.List.{List, _++_}
+use mathlib.Core.Bool.{Bool, true, false, cond, _||_}
+use mathlib.Core.List.{List}
 use Prim.Native.Nat.{ℕ, zero, suc, _+_, _-_, _*_, _/_, _%_, _<_}
-use native.Mathlib.Omega.{arith}
+use native.Mathlib.Nat.{add-zero}
 use native.Mathlib.Decide.{decLt}
-use borrow.Author.Tests.{eq-eqb, ne-eqb, le-ltb}
+use native.Mathlib.Omega.{arith}
+use borrow.Author.Tests.{eq-eqb, le-ltb}
 use lib.Dec.{T, eqb, ltb, eqb→eq, ltb→lt}
-use lib.ListN.{length, getD, length-append, List·getD-append}
-use lib.Seq.{getD-append-add}
+use lib.ListN.{length, getD}
 use Rattle.lists.specs.Lists.{bit, all, Below, listOf}
-use Rattle.lists.specs.Entries.{all-each, each-all, length-listOf, getD-listOf, listOf-same, listOf-getD, listOf-cut}
+use Rattle.lists.specs.Entries.{all-each, each-all, length-listOf, getD-listOf, listOf-same, listOf-getD}
 use Rattle.lists.specs.Tests.{conj, is-true, passes}
-use Rattle.sizes.specs.declared.Protocol.{Protocol}
+use Rattle.protocols.specs.declared.Protocol.{Protocol}
+use Rattle.protocols.specs.Protocols.{beside, posts, protocolCount, numberOf, protocolOf}
+use Rattle.protocols.specs.Laws.{number-few, number-read, number-written}
 use Rattle.messages.specs.Messages.{word}
 use Rattle.agreement.specs.declared.Outcome.the-variants.{Nothing, Record}
 use Rattle.agreement.specs.declared.Stage.{Stage}
 use Rattle.agreement.specs.declared.Stage.the-variants.{Speak, Listen, Ended}
 use Rattle.agreement.specs.declared.Column.{Column}
+use Rattle.agreement.specs.declared.Entry.{Entry}
 use Rattle.agreement.specs.Calls.{roundOf}
-use Rattle.agreement.specs.Shapes.{Shaped}
-use Rattle.state_bytes.specs.Layout.{posterByte, stageByte, half, flagByte, pointByte, numbers, encode, stageOf, byteFrom, flagFrom, wordFrom, decode, isStage, isFlag, areNumbers, isState}
+use Rattle.agreement.specs.Heard.{Shaped}
+use Rattle.state_bytes.specs.Layout.{Part, Version, Runs, Poster, StageKind, Round, Firm, Proposal, Bytes, Agreements, Reports, Kept, parts, offset, lengthOf, stateLength, version}
+use Rattle.state_bytes.specs.Layout.{posterByte, stageByte, half, flagByte, pointByte, part, joined, encode, stageOf, byteFrom, flagFrom, wordFrom, number}
+use Rattle.state_bytes.specs.Layout.{columnOf, whole, decode, isProtocol, isStage, isFlag, areNumbers, flags, isState}
+use Rattle.state_bytes.specs.Entry.{entryLength, entryBytes, readEntry}
+use Rattle.state_bytes.specs.Parts.{told, lengths, length-parts, at-part, slices, in-parts, one-byte, two-bytes}
 
--- FLAGS, NUMBERS OF 16 BITS, STAGES
+-- FLAGS, NUMBERS OF 16 BITS, STAGES: written and read, and the other way round
 
-flag-read : (b : Bool) → eqb (bit b) 1 ≡ b
-flag-read true = refl
-flag-read false = refl
-
-flag-small : (b : Bool) → ltb (bit b) 2 ≡ true
-flag-small true = refl
-flag-small false = refl
+flag-read : (b : Bool) → (eqb (bit b) 1 ≡ b) × (ltb (bit b) 2 ≡ true)
+flag-read true = (refl, refl)
+flag-read false = (refl, refl)
 
 flag-written : (v : ℕ) → v < 2 → bit (eqb v 1) ≡ v
 flag-written zero h = refl
 flag-written (suc zero) h = refl
 flag-written (suc (suc v)) h = absurd (omega arith)
 
-half-even : (v q : ℕ) → q % 2 ≡ 0 → half v q ≡ v % 256
+word-read : (v : ℕ) → half v 0 + 256 * half v 1 ≡ v
 unfolding half
-half-even v q e = simp (eq-eqb (q % 2) 0 e)
+word-read v = omega arith
 
-half-odd : (v q : ℕ) → (q % 2 ≡ 0 → ⊥) → half v q ≡ v / 256
-unfolding half
-half-odd v q e = simp (ne-eqb (q % 2) 0 e)
+word-written : (state : List ℕ) (a r : ℕ) → r < 2 → getD state a 0 < 256 → half (word state a) r ≡ getD state (a + r) 0
+unfolding half word
+word-written state a zero h b = rw (add-zero a) (omega arith)
+word-written state a (suc zero) h b = omega arith
+word-written state a (suc (suc r)) h b = absurd (omega arith)
 
 -- the two bytes of kept point i
-pub low-byte : (kept : List ℕ) (i : ℕ) → half (getD kept i 0) 0 ≡ pointByte kept (2 * i)
+pub half-byte : (kept : List ℕ) (i r : ℕ) → r < 2 → half (getD kept i 0) r ≡ pointByte kept (2 * i + r)
 unfolding pointByte
-low-byte kept i =
-    let e : 2 * i / 2 ≡ i = omega arith in
-    half-even (getD kept i 0) 0 refl ∙ sym (half-even (getD kept (2 * i / 2) 0) (2 * i) (omega arith) ∙ ap (λ (q : ℕ). getD kept q 0 % 256) e)
+half-byte kept i r h =
+    let e : (2 * i + r) / 2 ≡ i = omega arith in
+    let o : (2 * i + r) % 2 ≡ r = omega arith in
+    rw (e, o) refl
 
-pub high-byte : (kept : List ℕ) (i : ℕ) → half (getD kept i 0) 1 ≡ pointByte kept (2 * i + 1)
-unfolding pointByte
-high-byte kept i =
-    let e : (2 * i + 1) / 2 ≡ i = omega arith in
-    half-odd (getD kept i 0) 1 (λ z. omega arith)
-    ∙ sym (half-odd (getD kept ((2 * i + 1) / 2) 0) (2 * i + 1) (λ z. omega arith) ∙ ap (λ (q : ℕ). getD kept q 0 / 256) e)
-
-stage-read : (s : Stage) → stageOf (stageByte s) (roundOf s) ≡ s
-unfolding stageOf stageByte roundOf
-stage-read (Speak round) = refl
-stage-read (Listen round) = refl
-stage-read (Ended Nothing) = refl
-stage-read (Ended Record) = refl
-
-is-stage : (s : Stage) → isStage (stageByte s) (roundOf s) ≡ true
-unfolding isStage stageByte roundOf
-is-stage (Speak round) = refl
-is-stage (Listen round) = refl
-is-stage (Ended Nothing) = refl
-is-stage (Ended Record) = refl
+stage-read : (s : Stage) → (stageOf (stageByte s) (roundOf s) ≡ s) × (isStage (stageByte s) (roundOf s) ≡ true)
+unfolding stageOf isStage stageByte roundOf
+stage-read (Speak round) = (refl, refl)
+stage-read (Listen round) = (refl, refl)
+stage-read (Ended Nothing) = (refl, refl)
+stage-read (Ended Record) = (refl, refl)
 
 stage-written : (stage round : ℕ) → T (isStage stage round) → (stageByte (stageOf stage round) ≡ stage) × (roundOf (stageOf stage round) ≡ round)
 unfolding isStage stageOf stageByte roundOf
@@ -83,187 +75,165 @@ stage-written (suc (suc (suc zero))) round t = (refl, sym (eqb→eq round 0 t))
 stage-written (suc (suc (suc (suc stage)))) round t =
     absurd (rw (le-ltb (suc (suc (suc (suc stage)))) 2 (omega arith), le-ltb (suc (suc (suc (suc stage)))) 4 (omega arith)) at t)
 
--- WRITTEN AND READ BACK: what stands where in a column's state
+protocol-read : (p : Protocol) → (protocolOf (numberOf p) (posterByte p) ≡ p) × (isProtocol (numberOf p) (posterByte p) ≡ true)
+unfolding isProtocol posterByte
+protocol-read p =
+    let is = number-read p (posterByte p) (λ e. rw e refl) in
+    (is, rw (number-few p, is) (go (posts p)))
+  where
+    go : (b : Bool) → (b || eqb (cond b (beside p) 0) 0) ≡ true
+    go true = refl
+    go false = refl
 
-front : (l r : List ℕ) (a i : ℕ) → length l ≡ a → i < a → getD (l ++ r) i 0 ≡ getD l i 0
-front l r a i e h = List·getD-append l r 0 i (omega arith)
+protocol-written : (runs poster : ℕ) → T (isProtocol runs poster) → (numberOf (protocolOf runs poster) ≡ runs) × (posterByte (protocolOf runs poster) ≡ poster)
+unfolding isProtocol posterByte
+protocol-written runs poster t =
+    let few : T (ltb runs protocolCount) = search conj in
+    let right : T (posts (protocolOf runs poster) || eqb poster 0) = search conj in
+    let is = number-written runs poster few in
+    (is .0, go (posts (protocolOf runs poster)) (is .1) right)
+  where
+    go : (b : Bool) → (b ≡ true → beside (protocolOf runs poster) ≡ poster) → T (b || eqb poster 0) → cond b (beside (protocolOf runs poster)) 0 ≡ poster
+    go true e h = e refl
+    go false e h = sym (eqb→eq poster 0 h)
 
-behind : (l r : List ℕ) (a i : ℕ) → length l ≡ a → getD (l ++ r) (a + i) 0 ≡ getD r i 0
-behind l r a i e = rw e at (getD-append-add l r i 0)
+-- LISTS OF THEM, from place a on
 
-module _ (p : Protocol) (c : Column) (s : Shaped c) where
-  abbrev to-bytes : List ℕ
-  to-bytes = numbers p c ++ c .bytes
+read-back : {A : Type 0} (r : ℕ → A) (l : List A) (n : ℕ) (z : A) → length l ≡ n → ((i : ℕ) → i < n → r i ≡ getD l i z) → listOf r n ≡ l
+read-back r l n z e h = listOf-same r _ n h ∙ listOf-getD l n z e
 
-  abbrev to-agreements : List ℕ
-  to-agreements = to-bytes ++ listOf (flagByte (c .agreements)) 31
+module _ (state : List ℕ) (a n : ℕ) where
+  flags-read : (l : List Bool) → length l ≡ n → ((i : ℕ) → i < n → getD state (a + i) 0 ≡ flagByte l i) → listOf (flagFrom state a) n ≡ l
+  unfolding flagFrom flagByte
+  flags-read l e h = read-back _ l n false e (λ i k. ap (λ (v : ℕ). eqb v 1) (h i k) ∙ flag-read (getD l i false) .0)
 
-  abbrev to-reports : List ℕ
-  to-reports = to-agreements ++ listOf (flagByte (c .reports)) 31
+  flags-written : ((i : ℕ) → i < n → getD state (a + i) 0 < 2) → listOf (flagByte (listOf (flagFrom state a) n)) n ≡ listOf (byteFrom state a) n
+  unfolding flagByte flagFrom byteFrom
+  flags-written h = listOf-same _ _ n (λ i k. ap bit (getD-listOf (flagFrom state a) n i false k) ∙ flag-written (getD state (a + i) 0) (h i k))
 
-  length-numbers : length (numbers p c) ≡ 12
-  unfolding numbers
-  length-numbers = refl
+  words-read : (l : List ℕ) → length l ≡ n → ((i : ℕ) → i < 2 * n → getD state (a + i) 0 ≡ pointByte l i) → listOf (wordFrom state a) n ≡ l
+  unfolding wordFrom word
+  words-read l e h = read-back _ l n 0 e (λ i k.
+      let low = h (2 * i + 0) (omega arith) ∙ sym (half-byte l i 0 (omega arith)) in
+      let high = h (2 * i + 1) (omega arith) ∙ sym (half-byte l i 1 (omega arith)) in
+      let here : a + 2 * i ≡ a + (2 * i + 0) = omega arith in
+      let next : a + 2 * i + 1 ≡ a + (2 * i + 1) = omega arith in
+      rw (next, here, low, high) (word-read (getD l i 0)))
 
-  length-bytes : length to-bytes ≡ 44
-  length-bytes = length-append (numbers p c) (c .bytes) ∙ omega (arith, length-numbers, s .of-bytes)
+  words-written : Below 256 state → listOf (pointByte (listOf (wordFrom state a) n)) (2 * n) ≡ listOf (byteFrom state a) (2 * n)
+  unfolding pointByte wordFrom byteFrom
+  words-written b = listOf-same _ _ (2 * n) (λ q k.
+      ap (λ (v : ℕ). half v (q % 2)) (getD-listOf (wordFrom state a) n (q / 2) 0 (omega arith))
+      ∙ word-written state (a + 2 * (q / 2)) (q % 2) (omega arith) (b (a + 2 * (q / 2)))
+      ∙ ap (λ (j : ℕ). getD state j 0) (omega arith))
 
-  length-agreements : length to-agreements ≡ 75
-  length-agreements = length-append to-bytes _ ∙ omega (arith, length-bytes, length-listOf (flagByte (c .agreements)) 31)
+-- WRITTEN AND READ BACK
 
-  length-reports : length to-reports ≡ 106
-  length-reports = length-append to-agreements _ ∙ omega (arith, length-agreements, length-listOf (flagByte (c .reports)) 31)
+module _ (c : Column) (s : Shaped c) where
+  fits : lengths (part c) parts ≡ told parts
+  unfolding part lengths told
+  fits = rw (s .of-bytes) (simp length-listOf)
 
-  length-encode : length (encode p c) ≡ 170
+  length-encode : length (encode c) ≡ stateLength
   unfolding encode
-  length-encode = length-append to-reports _ ∙ omega (arith, length-reports, length-listOf (pointByte (c .kept)) 64)
+  length-encode = length-parts (part c) parts fits
 
-  at-bytes : (i : ℕ) → i < 32 → byteFrom (encode p c) 12 i ≡ getD (c .bytes) i 0
-  unfolding byteFrom encode
-  at-bytes i h =
-      front to-reports _ 106 (12 + i) length-reports (omega arith)
-      ∙ front to-agreements _ 75 (12 + i) length-agreements (omega arith)
-      ∙ front to-bytes _ 44 (12 + i) length-bytes (omega arith)
-      ∙ behind (numbers p c) _ 12 i length-numbers
+  at : (k : Part) (i : ℕ) → i < lengthOf k → getD (encode c) (offset k + i) 0 ≡ getD (part c k) i 0
+  unfolding encode
+  at k i h = at-part (part c) parts k i fits h
 
-  at-agreements : (i : ℕ) → i < 31 → byteFrom (encode p c) 44 i ≡ flagByte (c .agreements) i
-  unfolding byteFrom encode
-  at-agreements i h =
-      front to-reports _ 106 (44 + i) length-reports (omega arith)
-      ∙ front to-agreements _ 75 (44 + i) length-agreements (omega arith)
-      ∙ behind to-bytes _ 44 i length-bytes
-      ∙ getD-listOf (flagByte (c .agreements)) 31 i 0 h
+  -- a part that is a list by an index function
+  at-list : (k : Part) (f : ℕ → ℕ) → part c k ≡ listOf f (lengthOf k) → (i : ℕ) → i < lengthOf k → getD (encode c) (offset k + i) 0 ≡ f i
+  at-list k f e i h = at k i h ∙ rw e (getD-listOf f (lengthOf k) i 0 h)
 
-  at-reports : (i : ℕ) → i < 31 → byteFrom (encode p c) 75 i ≡ flagByte (c .reports) i
-  unfolding byteFrom encode
-  at-reports i h =
-      front to-reports _ 106 (75 + i) length-reports (omega arith)
-      ∙ behind to-agreements _ 75 i length-agreements
-      ∙ getD-listOf (flagByte (c .reports)) 31 i 0 h
-
-  at-kept : (i : ℕ) → i < 64 → byteFrom (encode p c) 106 i ≡ pointByte (c .kept) i
-  unfolding byteFrom encode
-  at-kept i h = behind to-reports _ 106 i length-reports ∙ getD-listOf (pointByte (c .kept)) 64 i 0 h
-
-  -- the fields that are more than one byte
-  bytes-read : listOf (byteFrom (encode p c) 12) 32 ≡ c .bytes
-  bytes-read = listOf-same _ _ 32 at-bytes ∙ listOf-getD (c .bytes) 32 0 (s .of-bytes)
-
-  flags-read : (flags : List Bool) (a : ℕ) → length flags ≡ 31 → ((i : ℕ) → i < 31 → byteFrom (encode p c) a i ≡ flagByte flags i)
-      → listOf (flagFrom (encode p c) a) 31 ≡ flags
-  unfolding flagFrom byteFrom flagByte
-  flags-read flags a e h =
-      listOf-same _ _ 31 (λ i l. ap (λ (v : ℕ). eqb v 1) (h i l) ∙ flag-read (getD flags i false)) ∙ listOf-getD flags 31 false e
-
-  point-read : (i : ℕ) → i < 32 → wordFrom (encode p c) 106 i ≡ getD (c .kept) i 0
-  unfolding wordFrom word byteFrom pointByte
-  point-read i h =
-      let low : byteFrom (encode p c) 106 (2 * i) ≡ getD (c .kept) i 0 % 256 =
-      at-kept (2 * i) (omega arith) ∙ half-even _ (2 * i) (omega arith) ∙ ap (λ (k : ℕ). getD (c .kept) k 0 % 256) (omega arith) in
-      let high : byteFrom (encode p c) 106 (2 * i + 1) ≡ getD (c .kept) i 0 / 256 =
-      at-kept (2 * i + 1) (omega arith) ∙ half-odd _ (2 * i + 1) (λ e. omega arith) ∙ ap (λ (k : ℕ). getD (c .kept) k 0 / 256) (omega arith) in
-      let next : 106 + 2 * i + 1 ≡ 106 + (2 * i + 1) = omega arith in
-      rw (next, low, high) (omega arith)
-
-  kept-read : listOf (wordFrom (encode p c) 106) 32 ≡ c .kept
-  kept-read = listOf-same _ _ 32 point-read ∙ listOf-getD (c .kept) 32 0 (s .of-kept)
-
-  proposal-read : word (encode p c) 10 ≡ c .proposal
-  unfolding word encode numbers half
-  proposal-read = omega arith
-
-  are-numbers : areNumbers p (encode p c) ≡ true
-  unfolding areNumbers isFlag encode numbers
-  are-numbers = simp (eq-eqb (posterByte p) (posterByte p) refl, is-stage (c .stage), flag-small (c .firm))
-
-  flag-fits : (i : ℕ) → i < 62 → T (isFlag (encode p c) 44 i)
-  unfolding isFlag byteFrom flagByte
-  flag-fits i h = go (decLt i 31)
-    where
-      go : Dec (i < 31) → T (ltb (getD (encode p c) (44 + i) 0) 2)
-      go (yes l) = passes _ (ap (λ (v : ℕ). ltb v 2) (at-agreements i l) ∙ flag-small (getD (c .agreements) i false))
-      go (no l) =
-          let e : 44 + i ≡ 75 + (i - 31) = omega arith in
-          passes _ (ap (λ (v : ℕ). ltb v 2) (ap (λ (k : ℕ). getD (encode p c) k 0) e ∙ at-reports (i - 31) (omega arith)) ∙ flag-small (getD (c .reports) (i - 31) false))
-
-pub decode-encode : (p : Protocol) (c : Column) → Shaped c → decode (encode p c) ≡ c
-unfolding decode encode numbers
-decode-encode p c s =
-    λ i. record {
-      n = c .n;
-      m = c .m;
-      own = c .own;
-      bytes = bytes-read p c s i;
-      proposal = proposal-read p c s i;
-      stage = stage-read (c .stage) i;
-      agreements = flags-read p c s (c .agreements) 44 (s .of-agreements) (at-agreements p c s) i;
-      reports = flags-read p c s (c .reports) 75 (s .of-reports) (at-reports p c s) i;
-      grade = c .grade;
-      vote = c .vote;
-      firm = flag-read (c .firm) i;
-      kept = kept-read p c s i;
-    }
-
-pub encode-is-state : (p : Protocol) (c : Column) → Shaped c → isState p (encode p c) ≡ true
-unfolding isState
-encode-is-state p c s =
-    simp (eq-eqb _ 170 (length-encode p c s), are-numbers p c s, is-true (all (isFlag (encode p c) 44) 62) (each-all _ 62 (flag-fits p c s)))
-
--- READ AND WRITTEN BACK
-
-low-written : (a b q : ℕ) → a < 256 → q % 2 ≡ 0 → half (a + 256 * b) q ≡ a
-low-written a b q h e = half-even (a + 256 * b) q e ∙ omega arith
-
-high-written : (a b q : ℕ) → a < 256 → (q % 2 ≡ 0 → ⊥) → half (a + 256 * b) q ≡ b
-high-written a b q h e = half-odd (a + 256 * b) q e ∙ omega arith
-
-module _ (state : List ℕ) where
-  abbrev entry : ℕ → ℕ
-  entry i = getD state i 0
-
-  flags-written : (a : ℕ) → ((i : ℕ) → i < 31 → entry (a + i) < 2) → listOf (flagByte (listOf (flagFrom state a) 31)) 31 ≡ listOf (λ i. entry (a + i)) 31
-  unfolding flagByte flagFrom
-  flags-written a h =
-      listOf-same _ _ 31 (λ i l. ap bit (getD-listOf (flagFrom state a) 31 i false l) ∙ flag-written (entry (a + i)) (h i l))
-
-  point-written : Below 256 state → (q : ℕ) → q < 64 → pointByte (listOf (wordFrom state 106) 32) q ≡ entry (106 + q)
-  unfolding pointByte wordFrom word
-  point-written b q h = ap (λ (v : ℕ). half v q) (getD-listOf (wordFrom state 106) 32 (q / 2) 0 (omega arith)) ∙ go (decLt (q % 2) 1)
-    where
-      go : Dec (q % 2 < 1) → half (entry (106 + 2 * (q / 2)) + 256 * entry (106 + 2 * (q / 2) + 1)) q ≡ entry (106 + q)
-      go (yes l) = low-written _ _ q (b (106 + 2 * (q / 2))) (omega arith) ∙ ap entry (omega arith)
-      go (no l) = high-written _ _ q (b (106 + 2 * (q / 2))) (λ e. omega arith) ∙ ap entry (omega arith)
-
-  numbers-written : (p : Protocol) → Below 256 state → T (areNumbers p state) → numbers p (decode state) ≡ listOf entry 12
-  unfolding numbers decode word listOf areNumbers isFlag
-  numbers-written p b t =
-      let stages : T (isStage (entry 5) (entry 6)) = search conj in
-      let version : entry 0 ≡ 1 = eqb→eq (entry 0) 1 (search conj) in
-      let poster : entry 1 ≡ posterByte p = eqb→eq (entry 1) (posterByte p) (search conj) in
-      let firm : bit (eqb (entry 9) 1) ≡ entry 9 = flag-written (entry 9) (ltb→lt (entry 9) 2 (search conj)) in
+  column-read : columnOf (encode c) ≡ c
+  unfolding columnOf encode joined part byteFrom word
+  column-read =
       rw (
-        version,
-        poster,
-        stage-written (entry 5) (entry 6) stages .0,
-        stage-written (entry 5) (entry 6) stages .1,
-        firm,
-        low-written (entry 10) (entry 11) 0 (b 10) refl,
-        high-written (entry 10) (entry 11) 1 (b 10) (λ e. omega arith),
+        protocol-read (c .protocol) .0,
+        stage-read (c .stage) .0,
+        flag-read (c .firm) .0,
+        word-read (c .proposal),
+        read-back (byteFrom (encode c) (offset Bytes)) (c .bytes) 32 0 (s .of-bytes) (at Bytes),
+        flags-read (encode c) (offset Agreements) 31 (c .agreements) (s .of-agreements) (at-list Agreements (flagByte (c .agreements)) refl),
+        flags-read (encode c) (offset Reports) 31 (c .reports) (s .of-reports) (at-list Reports (flagByte (c .reports)) refl),
+        words-read (encode c) (offset Kept) 32 (c .kept) (s .of-kept) (at-list Kept (pointByte (c .kept)) refl),
       )
       refl
 
-  in-parts : listOf entry 170 ≡ listOf entry 12 ++ listOf (λ i. entry (12 + i)) 32 ++ listOf (λ i. entry (44 + i)) 31 ++ listOf (λ i. entry (75 + i)) 31 ++ listOf (λ i. entry (106 + i)) 64
-  in-parts = rw (listOf-cut entry 106 64, listOf-cut entry 75 31, listOf-cut entry 44 31, listOf-cut entry 12 32) refl
+  are-numbers : areNumbers (encode c) ≡ true
+  unfolding areNumbers encode joined part
+  are-numbers = simp (protocol-read (c .protocol) .1, stage-read (c .stage) .1, flag-read (c .firm) .1)
 
-pub encode-decode : (p : Protocol) (state : List ℕ) → Below 256 state → isState p state ≡ true → encode p (decode state) ≡ state
-unfolding isState isFlag encode decode byteFrom
-encode-decode p state b h =
-    let t : T (eqb (length state) 170 && areNumbers p state && all (isFlag state 44) 62) = passes _ h in
-    let flag : (i : ℕ) → i < 62 → getD state (44 + i) 0 < 2 = λ i l. ltb→lt (getD state (44 + i) 0) 2 (all-each (isFlag state 44) 62 (search conj) i l) in
-    rw (
-      numbers-written state p b (search conj),
-      flags-written state 44 (λ i l. flag i (omega arith)),
-      flags-written state 75 (λ i l. let e : 44 + (31 + i) ≡ 75 + i = omega arith in rw e at (flag (31 + i) (omega arith))),
-      listOf-same _ _ 64 (point-written state b),
+  is-flag : (k : Part) (l : List Bool) (i : ℕ) → part c k ≡ listOf (flagByte l) (lengthOf k) → i < lengthOf k → ltb (getD (encode c) (offset k + i) 0) 2 ≡ true
+  unfolding flagByte
+  is-flag k l i e h = ap (λ (v : ℕ). ltb v 2) (at-list k (flagByte l) e i h) ∙ flag-read (getD l i false) .1
+
+  are-flags : (i : ℕ) → i < flags → T (isFlag (encode c) i)
+  unfolding isFlag part
+  are-flags i h = passes _ (go (decLt i (lengthOf Agreements)))
+    where
+      go : Dec (i < lengthOf Agreements) → ltb (getD (encode c) (offset Agreements + i) 0) 2 ≡ true
+      go (yes l) = is-flag Agreements (c .agreements) i refl l
+      go (no l) =
+          let e : offset Agreements + i ≡ offset Reports + (i - lengthOf Agreements) = omega arith in
+          rw e (is-flag Reports (c .reports) (i - lengthOf Agreements) refl (omega arith))
+
+whole-is : (state : List ℕ) → length state ≡ stateLength → whole state ≡ state
+unfolding whole
+whole-is state e = listOf-getD state stateLength 0 e
+
+pub decode-encode : (c : Column) → Shaped c → decode (encode c) ≡ c
+unfolding decode
+decode-encode c s = ap columnOf (whole-is (encode c) (length-encode c s)) ∙ column-read c s
+
+pub encode-is-state : (c : Column) → Shaped c → isState (encode c) ≡ true
+unfolding isState
+encode-is-state c s =
+    simp (eq-eqb _ stateLength (length-encode c s), are-numbers c s, is-true (all (isFlag (encode c)) flags) (each-all _ flags (are-flags c s)))
+
+-- READ AND WRITTEN BACK
+
+column-written : (state : List ℕ) → Below 256 state → T (isState state) → encode (columnOf state) ≡ slices state 0 parts
+unfolding isState areNumbers isFlag encode joined part columnOf slices
+column-written state b t =
+    let numbers : T (areNumbers state) = search conj in
+    let runs : T (isProtocol (number state Runs) (number state Poster)) = search conj in
+    let stages : T (isStage (number state StageKind) (number state Round)) = search conj in
+    let firm : T (ltb (number state Firm) 2) = search conj in
+    let small : (i : ℕ) → i < flags → getD state (offset Agreements + i) 0 < 2 = λ i h. ltb→lt (getD state (offset Agreements + i) 0) 2 (all-each (isFlag state) flags (search conj) i h) in
+    let behind : (i : ℕ) → offset Agreements + (lengthOf Agreements + i) ≡ offset Reports + i = λ i. omega arith in
+    simp (one-byte state, two-bytes state)
+    (rw (
+      eqb→eq (number state Version) version (search conj),
+      protocol-written (number state Runs) (number state Poster) runs .0,
+      protocol-written (number state Runs) (number state Poster) runs .1,
+      stage-written (number state StageKind) (number state Round) stages .0,
+      stage-written (number state StageKind) (number state Round) stages .1,
+      flag-written (number state Firm) (ltb→lt (number state Firm) 2 firm),
+      word-written state (offset Proposal) 0 (omega arith) (b (offset Proposal)),
+      word-written state (offset Proposal) 1 (omega arith) (b (offset Proposal)),
+      flags-written state (offset Agreements) 31 (λ i h. small i (omega arith)),
+      flags-written state (offset Reports) 31 (λ i h. rw (behind i) at (small (lengthOf Agreements + i) (omega arith))),
+      words-written state (offset Kept) 32 b,
     )
-    (sym (in-parts state) ∙ listOf-getD state 170 0 (eqb→eq (length state) 170 (search conj)))
+    refl)
+
+pub encode-decode : (state : List ℕ) → Below 256 state → isState state ≡ true → encode (decode state) ≡ state
+unfolding isState decode byteFrom
+encode-decode state b h =
+    let t : T (isState state) = passes _ h in
+    let e = eqb→eq (length state) stateLength (search conj) in
+    ap (λ (s : List ℕ). encode (columnOf s)) (whole-is state e)
+    ∙ column-written state b t
+    ∙ sym (in-parts state 0 parts)
+    ∙ read-back (byteFrom state 0) state stateLength 0 e (λ i l. ap (λ (q : ℕ). getD state q 0) (omega arith))
+
+-- AN ENTRY
+pub entry-read : (e : Entry) → readEntry (entryBytes e) ≡ e
+unfolding readEntry entryBytes
+entry-read e = rw (flag-read (e .has_record) .0) refl
+
+pub entry-long : (e : Entry) → length (e .bytes) ≡ 32 → length (entryBytes e) ≡ entryLength
+unfolding entryBytes
+entry-long e h = omega arith

@@ -36,3 +36,7 @@ fronted-more l v w d₀ d e a k p s n h q =
 -- no place is left
 pub fronted-all : (l d₀ d : List ℕ) (a : ℕ) → Fronted l a d₀ d → length d₀ ≤ a → d ≡ l
 fronted-all l d₀ d a p h = p .holds ∙ rw (drop-of-length-le d₀ h) (append-nil l)
+
+-- bytes that fill the slice
+pub put-whole : (bytes part : List ℕ) → length bytes ≡ length part → put bytes part ≡ bytes
+put-whole bytes part e = put-fits bytes part (omega arith) ∙ rw (drop-of-length-le part {i = length bytes} (omega arith)) (append-nil bytes)

@@ -1,21 +1,27 @@
 // The parts of a state, each written through the part of the slice that starts at its place.
+use crate::AGREEMENTS;
+use crate::BYTES;
+use crate::KEPT;
+use crate::LAYOUT;
+use crate::REPORTS;
 use agreement::Column;
 use agreement::Outcome;
 use agreement::Stage;
-use sizes::Protocol;
+use protocols::Protocol;
 ghost use mathlib.Core.Path.{_≡_};
-ghost use lib.ListN.{length};
+ghost use lib.ListN.{length, take};
 ghost use Rattle.lists.specs.Lists.{listOf};
 ghost use Rattle.agreement.specs.declared.Stage.the-variants.{Ended};
-ghost use Rattle.state_bytes.specs.Layout.{posterByte, stageByte, half as halfOf, flagByte, pointByte, numbers as numbersOf, encode as encodeOf};
+ghost use Rattle.state_bytes.specs.Layout.{Bytes, offset, stateLength, posterByte, stageByte, half as halfOf, flagByte, pointByte, encode as encodeOf};
 
-pub(super) fn poster_byte(protocol: Protocol) -> u8
+// Where nobody posts, the poster's number is 0.
+fn poster_byte(protocol: Protocol) -> u8
     ensures { λ r. ⌜ r ≡ posterByte protocol ⌝ }
 {
-    match protocol {
-        Protocol::Agreement => 0,
-        Protocol::Posting(poster) => poster,
+    if protocols::posts(protocol) {
+        return protocols::beside(protocol);
     }
+    0
 }
 
 fn ended_byte(outcome: Outcome) -> u8
@@ -37,22 +43,25 @@ fn stage_byte(stage: Stage) -> u8
     }
 }
 
-// The low byte of a number at an even place, the high one at an odd.
-fn half(v: u16, q: usize) -> u8
-    ensures { λ r. ⌜ r ≡ halfOf v q ⌝ }
+// The low byte of a number, or the high one.
+fn half(v: u16, which: u8) -> u8
+    ensures { λ r. ⌜ r ≡ halfOf v which ⌝ }
 {
-    if q % 2 == 0 {
+    if which == 0 {
         return (v % 256) as u8;
     }
     (v / 256) as u8
 }
 
-fn numbers(protocol: Protocol, column: Column) -> [u8; 12]
-    ensures { λ r. ⌜ r ≡ numbersOf protocol column ⌝ }
+// What lies before the record.
+fn numbers(column: Column) -> [u8; BYTES]
+    ensures { λ r. ⌜ r ≡ take (offset Bytes) (encodeOf column) ⌝ }
 {
+    let protocol = column.protocol;
     let stage = column.stage;
     [
-        1,
+        LAYOUT,
+        protocols::number_of(protocol),
         poster_byte(protocol),
         column.n,
         column.m,
@@ -90,11 +99,11 @@ fn point_bytes(kept: [u16; 32]) -> [u8; 64]
 }
 
 // The whole state, part by part.
-pub(super) fn all(protocol: Protocol, column: Column, state: &mut [u8])
-    requires { ⌜ length (now state) ≡ 170 ⌝ }
-    ensures { λ _. ⌜ now (state .exit) ≡ encodeOf protocol column ⌝ }
+pub(super) fn all(column: Column, state: &mut [u8])
+    requires { ⌜ length (now state) ≡ stateLength ⌝ }
+    ensures { λ _. ⌜ now (state .exit) ≡ encodeOf column ⌝ }
 {
-    let numbers = numbers(protocol, column);
+    let numbers = numbers(column);
     let bytes = column.bytes;
     let agreements = column.agreements;
     let reports = column.reports;
@@ -103,8 +112,8 @@ pub(super) fn all(protocol: Protocol, column: Column, state: &mut [u8])
     let report_bytes = flag_bytes(reports);
     let kept_bytes = point_bytes(kept);
     messages::put(&numbers, state);
-    messages::put(&bytes, &mut state[12..]);
-    messages::put(&agreement_bytes, &mut state[44..]);
-    messages::put(&report_bytes, &mut state[75..]);
-    messages::put(&kept_bytes, &mut state[106..]);
+    messages::put(&bytes, &mut state[BYTES..]);
+    messages::put(&agreement_bytes, &mut state[AGREEMENTS..]);
+    messages::put(&report_bytes, &mut state[REPORTS..]);
+    messages::put(&kept_bytes, &mut state[KEPT..]);
 }

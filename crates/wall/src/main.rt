@@ -1,6 +1,6 @@
 // Reads one sheet from standard input and prints the listing of its wall, or `refused` and a number.
-use sizes::Protocol;
+use protocols::Protocol;
 
 fn main() {
-    console::list(Protocol::Agreement);
+    listing::console::list(Protocol::Agreement);
 }

@@ -2,14 +2,7 @@
 // anything else: a posting), one for the poster's number, two for the sheet's length, the low one first, and the sheet.
 use libc::STDIN_FILENO;
 use libc::STDOUT_FILENO;
-use sizes::Protocol;
-
-fn protocol_of(kind: u8, poster: u8) -> Protocol {
-    if kind == 0 {
-        return Protocol::Agreement;
-    }
-    Protocol::Posting(poster)
-}
+use protocols::Protocol;
 
 // Reads a sheet of the slice's length and prints its listing. A sheet that the input ends within is listed as far as it goes.
 fn list(protocol: Protocol, sheet: &mut [u8]) {
@@ -28,7 +21,10 @@ fn play() -> bool {
     }
     let mut sheet = [0u8; 65536];
     let len = io::count(messages::word(&header, 2) as isize, &sheet);
-    list(protocol_of(header[0], header[1]), &mut sheet[..len]);
+    list(
+        protocols::protocol_of(header[0], header[1]),
+        &mut sheet[..len],
+    );
     true
 }
 

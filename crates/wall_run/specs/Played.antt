@@ -1,7 +1,7 @@
 -- The calls of a wall run that is not refused are a run of the third demand.
-use mathlib.Core.Path.{_≡_, refl, sym, ap, subst, _∙_}
-use mathlib.Core.Bool.{false, not}
-use mathlib.Core.List.{List, [], _∷_}
+use mathlib.Core.Path.{_≡_, sym, ap, subst, _∙_}
+use mathlib.Core.Bool.{not}
+use mathlib.Core.List.{List, []}
 use Prim.Native.Nat.{ℕ, zero, suc, _+_, _-_, _*_, _≤_, _<_}
 use native.Mathlib.Omega.{arith}
 use borrow.Author.Tests.{le-leb}
@@ -14,13 +14,17 @@ use Rattle.lists.specs.Entries.{below-take}
 use Rattle.lists.specs.Rows.{length-rowsOf}
 use Rattle.lists.specs.Count.{mono}
 use Rattle.field.specs.Field.{blank}
-use Rattle.sizes.specs.declared.Protocol.{Protocol}
-use Rattle.sizes.specs.Sizes.{roundsIn, valuesIn, lineIn, refusal as refusalOfSizes, beside}
+use Rattle.protocols.specs.declared.Protocol.{Protocol}
+use Rattle.sizes.specs.Sizes.{refusal as refusalOfSizes}
 use Rattle.sizes.specs.Laws.{not-refused as sizes-accepted, accepted as sizes-inside}
+use Rattle.protocols.specs.Protocols.{roundsIn, valuesIn, lineIn, beside}
 use Rattle.messages.specs.Wall.{Wall, Sound, Delivered}
 use Rattle.agreement.specs.declared.Column.{Column}
 use Rattle.agreement.specs.Calls.{speak, written, listen}
-use Rattle.agreement.specs.Lists.{Call, Item, leading, after as afterCall, leadingCalls, turns, extrasIdle, wrote, made, Run}
+use Rattle.machine.specs.Machine.{Call}
+use Rattle.machine.specs.Lists.{Item, inTurn, wrote, made, Run}
+use Rattle.machine.specs.Carried.{all-calls, all-allowed}
+use Rattle.agreement.specs.Machine.{after as afterCall, machine, plain}
 use Rattle.agreement.specs.Course.{course}
 use Rattle.agreement.specs.Runs.{fresh-accepted, fresh-is-made}
 use Rattle.agreement.specs.Walk.{Ready, Walked, walk, speaks-in, listens-in}
@@ -30,25 +34,9 @@ use Rattle.delivery.specs.Delivery.{sent, inbox}
 use Rattle.wall_run.specs.Run.{columnAt, roundAt, blanks, mail, after}
 use Rattle.wall_run.specs.Columns.{lent, delivered, at-start, at-next, mail-is}
 
--- CALLS THAT ALL LEAD THROUGH THE ROUNDS
-
-unfoldable pub allLeading : List Call → List Item
-allLeading [] = []
-allLeading (call ∷ calls) = leading call ∷ allLeading calls
-
-leading-are : (calls : List Call) → leadingCalls (allLeading calls) ≡ calls
-unfolding allLeading leadingCalls
-leading-are [] = refl
-leading-are (call ∷ calls) = ap (λ (rest : List Call). call ∷ rest) (leading-are calls)
-
-no-extras : (p : Protocol) (c : Column) (calls : List Call) → T (extrasIdle p c (allLeading calls))
-unfolding allLeading extrasIdle
-no-extras p c [] = tt
-no-extras p c (call ∷ calls) = no-extras p (afterCall p c call) calls
-
 -- the calls of column i of a wall
-unfoldable pub calls : Protocol → List ℕ → ℕ → List Item
-calls p sheet i = allLeading (turns (lent p sheet) (delivered p sheet i) 1 (roundsIn p (columns sheet)))
+abbrev pub calls : Protocol → List ℕ → ℕ → List (Item Call)
+calls p sheet = inTurn p (columns sheet) (λ i. lent p sheet) (delivered p sheet)
 
 module _ (p : Protocol) (sheet : List ℕ) {rows : ℕ} (small : Below 256 sheet) (A : Accepted (lineIn p (columns sheet) (bytes sheet)) sheet rows) (poster : refusalOfSizes (columns sheet) (bytes sheet) (beside p) ≡ 0) where
   abbrev n : ℕ
@@ -86,7 +74,7 @@ module _ (p : Protocol) (sheet : List ℕ) {rows : ℕ} (small : Below 256 sheet
 
   delivered-length : (i r : ℕ) → length (delivered p sheet i r) ≡ n * valuesIn p n m r
   unfolding delivered inbox roundAt
-  delivered-length i r = length-rowsOf (sent sheet (roundAt p sheet r) (mail p sheet (valuesIn p n m r) (after p sheet (r - 1))) i) (valuesIn p n m r) n
+  delivered-length i r = length-rowsOf (sent sheet (roundAt p sheet r) (mail sheet (valuesIn p n m r) (after p sheet (r - 1))) i) (valuesIn p n m r) n
 
   module _ (i : ℕ) (si : Sound n (sound sheet) i) where
     full : length (recordOf sheet i) ≡ m
@@ -104,12 +92,11 @@ module _ (p : Protocol) (sheet : List ℕ) {rows : ℕ} (small : Below 256 sheet
     ready : Ready p n m i (recordOf sheet i) (delivered p sheet i) (lent p sheet)
     ready = record { accepted = sized; poster = poster; full = full; out-length = λ r l u. lent-length r; inbox-length = λ r l u. delivered-length i r }
 
-    pub made-is : made p n m (recordOf sheet) i ≡ state i 0
+    pub made-is : made (machine p) n m (recordOf sheet) i ≡ state i 0
     made-is = fresh-is-made p n m (recordOf sheet) (delivered p sheet i) i (fresh-accepted p n m i (recordOf sheet i) sized poster full)
 
-    pub walked : Walked p n m i (recordOf sheet i) (delivered p sheet i) false 0 (calls p sheet i)
-    unfolding calls
-    walked = walk p n m i (recordOf sheet i) (delivered p sheet i) (lent p sheet) ready (calls p sheet i) (leading-are _) (no-extras p (state i 0) _)
+    pub walked : Walked p n m i (recordOf sheet i) (delivered p sheet i) 0 (calls p sheet i)
+    walked = walk p n m i (recordOf sheet i) (delivered p sheet i) (lent p sheet) ready
 
     -- its state in the wall is that of its course
     pub state-is : (q : ℕ) → q ≤ roundsIn p n → columnAt (after p sheet q) i ≡ state i q
@@ -117,27 +104,26 @@ module _ (p : Protocol) (sheet : List ℕ) {rows : ℕ} (small : Below 256 sheet
     state-is zero l = at-start p sheet i si ∙ made-is
     state-is (suc q) l =
         at-next p sheet i si q
-        ∙ ap (λ (c : Column). listen p (speak p c (lent p sheet (suc q)) .column) (delivered p sheet i (suc q)) .column) (state-is q (omega arith))
-        ∙ ap (λ (c : Column). listen p c (delivered p sheet i (suc q)) .column) (speaks-in p n m i (recordOf sheet i) (delivered p sheet i) (lent p sheet) ready q (lent p sheet (suc q)) l refl .1)
-        ∙ listens-in p n m i (recordOf sheet i) (delivered p sheet i) (lent p sheet) ready q (delivered p sheet i (suc q)) l refl .1
+        ∙ ap (λ (c : Column). listen (speak c (lent p sheet (suc q)) .column) (delivered p sheet i (suc q)) .column) (state-is q (omega arith))
+        ∙ ap (λ (c : Column). listen c (delivered p sheet i (suc q)) .column) (speaks-in p n m i (recordOf sheet i) (delivered p sheet i) (lent p sheet) ready q l .1)
+        ∙ listens-in p n m i (recordOf sheet i) (delivered p sheet i) (lent p sheet) ready q l .1
 
     -- and so is what it writes
-    written-is : (q : ℕ) → q < roundsIn p n → written p (columnAt (after p sheet q) i) (lent p sheet (suc q)) ≡ getD (wrote p (made p n m (recordOf sheet) i) (calls p sheet i)) q []
+    written-is : (q : ℕ) → q < roundsIn p n → written (columnAt (after p sheet q) i) (lent p sheet (suc q)) ≡ getD (wrote (machine p) (made (machine p) n m (recordOf sheet) i) (calls p sheet i)) q []
     written-is q l =
-        ap (λ (c : Column). written p c (lent p sheet (suc q))) (state-is q (omega arith))
-        ∙ speaks-in p n m i (recordOf sheet i) (delivered p sheet i) (lent p sheet) ready q (lent p sheet (suc q)) l refl .2
-        ∙ sym (ap (λ (c : Column). getD (wrote p c (calls p sheet i)) q []) made-is ∙ walked .wrote-at q q (omega arith) l)
+        ap (λ (c : Column). written c (lent p sheet (suc q))) (state-is q (omega arith))
+        ∙ speaks-in p n m i (recordOf sheet i) (delivered p sheet i) (lent p sheet) ready q l .2
+        ∙ sym (ap (λ (c : Column). getD (wrote (machine p) c (calls p sheet i)) q []) made-is ∙ walked .wrote-at q q (omega arith) l)
 
   -- THE RUN
 
   mail-at : (q : ℕ) → q < roundsIn p n
-      → Delivered n (sound sheet) (valuesIn p n m (suc q)) (λ j. getD (wrote p (made p n m (recordOf sheet) j) (calls p sheet j)) q []) (λ i. delivered p sheet i (suc q))
+      → Delivered n (sound sheet) (valuesIn p n m (suc q)) (λ j. getD (wrote (machine p) (made (machine p) n m (recordOf sheet) j) (calls p sheet j)) q []) (λ i. delivered p sheet i (suc q))
   unfolding Delivered
   mail-at q l i j k si sj ne h =
       mail-is p sheet q i j k si sj h ∙ ap (λ (s : List ℕ). inRow (valuesIn p n m (suc q)) s i k blank) (written-is j sj q l)
 
-  pub run : Run p n m (sound sheet) (recordOf sheet) (calls p sheet) (λ i. lent p sheet) (delivered p sheet)
-  unfolding calls
+  pub run : Run (machine p) p n m (sound sheet) (recordOf sheet) (calls p sheet) (λ i. lent p sheet) (delivered p sheet)
   run =
       record {
         wall = wall;
@@ -146,12 +132,12 @@ module _ (p : Protocol) (sheet : List ℕ) {rows : ℕ} (small : Below 256 sheet
         poster-low = sizes-inside n m (beside p) poster .number-low;
         poster-high = sizes-inside n m (beside p) poster .number-high;
         records = λ i si. (full i si, bytes-small i si);
-        in-turn = λ i si. leading-are _;
+        in-turn = λ i si. all-calls (machine p) (plain p) _;
         out-length = λ i r si l u. lent-length r;
         inbox-length = λ i r si l u. delivered-length i r;
-        extras = λ i si. no-extras p (made p n m (recordOf sheet) i) _;
+        extras = λ i si. all-allowed (machine p) (plain p) (made (machine p) n m (recordOf sheet) i) _;
         mail = λ r l u.
             let e : suc (r - 1) ≡ r = omega arith in
-            subst (λ (x : ℕ). Delivered n (sound sheet) (valuesIn p n m x) (λ j. getD (wrote p (made p n m (recordOf sheet) j) (calls p sheet j)) (r - 1) []) (λ i. delivered p sheet i x)) e
+            subst (λ (x : ℕ). Delivered n (sound sheet) (valuesIn p n m x) (λ j. getD (wrote (machine p) (made (machine p) n m (recordOf sheet) j) (calls p sheet j)) (r - 1) []) (λ i. delivered p sheet i x)) e
             (mail-at (r - 1) (omega arith));
       }

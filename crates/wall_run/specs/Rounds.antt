@@ -1,8 +1,6 @@
 -- The loop over the rounds of a wall.
 use mathlib.Core.Path.{_≡_, refl, ap, _∙_}
-use mathlib.Core.Bool.{Bool, true, false, cond}
 use mathlib.Core.List.{List}
-use lib.Dec.{eqb, leb}
 use Prim.Native.Nat.{ℕ, _+_, _-_, _*_, _≤_, _<_}
 use native.Mathlib.Nat.{mul-le-mul}
 use native.Mathlib.Numerals.{add-one}
@@ -10,10 +8,10 @@ use native.Mathlib.Omega.{arith}
 use lib.ListN.{length}
 use Rattle.lists.specs.Lists.{sum}
 use Rattle.lists.specs.Entries.{sum-more, sum-le}
-use Rattle.sizes.specs.declared.Protocol.{Protocol}
-use Rattle.sizes.specs.declared.Protocol.the-variants.{Agreement, Posting}
-use Rattle.sizes.specs.Sizes.{degree, blocks, rounds, values, postingValues, roundsIn, valuesIn, lineIn}
-use Rattle.sizes.specs.Laws.{values-in-le, InRange, sized}
+use Rattle.protocols.specs.declared.Protocol.{Protocol}
+use Rattle.sizes.specs.Laws.{InRange}
+use Rattle.protocols.specs.Protocols.{roundsIn, valuesIn, lineIn}
+use Rattle.protocols.specs.Laws.{values-by-kind, values-in-le, width-all-le}
 use Rattle.agreement.specs.declared.Column.{Column}
 use Rattle.sheet.specs.Sheet.{columns, bytes}
 use Rattle.delivery.specs.declared.Round.{Round}
@@ -23,36 +21,9 @@ use Rattle.wall_run.specs.Run.{start, roundAt, played, after, ended}
 pub width-le : (p : Protocol) (n m r : ℕ) → m ≤ 32 → valuesIn p n m r ≤ 65
 width-le p n m r h = omega (arith, values-in-le p n m r)
 
--- n is at most 9 (d + 1), and B blocks of d + 1 bytes are at most m + d
-exchange-le : (n m : ℕ) → InRange n m → n * (2 * blocks n m) ≤ 992
-exchange-le n m r =
-    let s = sized n m r in
-    let some : blocks n m * (degree n + 1) ≤ 35 = omega (arith, s .blocks-least, s .degree-high, r .bytes-high) in
-    let held : n * blocks n m ≤ 9 * (degree n + 1) * blocks n m = mul-le-mul {n₁ = n} {m₁ = blocks n m} {n₂ = 9 * (degree n + 1)} {m₂ = blocks n m} (omega (arith, s .faults-most, s .degree-most)) (omega arith) in
-    omega (arith, held, some)
-
-record-le : (n m : ℕ) → InRange n m → n * m ≤ 992
-record-le n m r = mul-le-mul {n₁ = n} {m₁ = m} {n₂ = 31} {m₂ = 32} (r .columns-high) (r .bytes-high)
-
+-- what one column says in a round
 pub one-le : (p : Protocol) (n m round : ℕ) → InRange n m → n * valuesIn p n m round ≤ 992
-unfolding valuesIn values postingValues
-one-le Agreement n m round r = go (eqb round 0) (eqb round 1) (leb (round + 2) (rounds n)) (leb round (rounds n))
-  where
-    go : (a b c d : Bool) → n * cond a 0 (cond b (2 * blocks n m) (cond c 1 (cond d (blocks n m) 0))) ≤ 992
-    go true b c d = omega arith
-    go false true c d = exchange-le n m r
-    go false false true d = omega (arith, r .columns-high)
-    go false false false true = omega (arith, exchange-le n m r)
-    go false false false false = omega arith
-one-le (Posting s) n m round r = go (eqb round 0) (eqb round 1) (eqb round 2) (leb round 4) (leb round 6)
-  where
-    go : (a b c d e : Bool) → n * cond a 0 (cond b m (cond c (2 * blocks n m) (cond d 1 (cond e (blocks n m) 0)))) ≤ 992
-    go true b c d e = omega arith
-    go false true c d e = record-le n m r
-    go false false true d e = exchange-le n m r
-    go false false false true e = omega (arith, r .columns-high)
-    go false false false false true = omega (arith, exchange-le n m r)
-    go false false false false false = omega arith
+one-le p n m round r = values-by-kind (λ w. n * w ≤ 992) p n m round (omega arith) (λ kind. width-all-le n m kind r)
 
 pub mail-le : (n w : ℕ) → n ≤ 31 → n * w ≤ 992 → n * (n * w) ≤ 30752
 mail-le n w h g = mul-le-mul {n₁ = n} {m₁ = n * w} {n₂ = 31} {m₂ = 992} h g
@@ -79,14 +50,14 @@ going-none p sheet last mail wall h e r = record { within = omega arith; few = h
 
 pub going-more : {p : Protocol} {sheet : List ℕ} {last : ℕ} {mail mail′ : List ℕ} {wall wall′ : List Column} {offset q : ℕ} (l w : ℕ) → Going p sheet last mail wall offset q → q < last
     → length mail′ ≡ length mail → l ≡ lineIn p (columns sheet) (bytes sheet) → w ≡ valuesIn p (columns sheet) (bytes sheet) (q + 1)
-    → wall′ ≡ played p sheet (record { line = l; offset = offset; width = w }) wall → Going p sheet last mail′ wall′ (offset + w) (q + 1)
+    → wall′ ≡ played sheet (record { line = l; offset = offset; width = w }) wall → Going p sheet last mail′ wall′ (offset + w) (q + 1)
 unfolding after
 going-more {p} {sheet} {last} {mail} {mail′} {wall} {wall′} {offset} {q} l w g h same el ew e =
     record {
       within = omega arith;
       few = g .few;
       wall-is =
-          e ∙ ap (λ (round : Round). played p sheet round wall) (round-is p sheet q l offset w el (g .offset-is) ew) ∙ ap (played p sheet (roundAt p sheet (q + 1))) (g .wall-is)
+          e ∙ ap (λ (round : Round). played sheet round wall) (round-is p sheet q l offset w el (g .offset-is) ew) ∙ ap (played sheet (roundAt p sheet (q + 1))) (g .wall-is)
           ∙ rw add-one refl;
       offset-is = rw (sum-more, g .offset-is, ew) refl;
       room = same ∙ g .room;

@@ -9,13 +9,15 @@ use lib.Dec.{eqb}
 use lib.ListN.{length, getD, drop, replicate, List·getD-append}
 use Rattle.lists.specs.Lists.{listOf}
 use Rattle.lists.specs.Entries.{length-listOf, getD-listOf, listOf-same, listOf-none, listOf-done}
-use Rattle.sizes.specs.declared.Protocol.{Protocol}
-use Rattle.sizes.specs.Sizes.{lineIn, refusal as refusalOfSizes, beside}
+use Rattle.protocols.specs.declared.Protocol.{Protocol}
+use Rattle.sizes.specs.Sizes.{refusal as refusalOfSizes}
+use Rattle.protocols.specs.Protocols.{lineIn, beside}
 use Rattle.sheet.specs.Sheet.{columns, bytes}
 use Rattle.sheet.specs.Laws.{Accepted, accepted}
-use Rattle.wall_run.specs.declared.Entry.{Entry}
+use Rattle.agreement.specs.Entries.{markOnly}
+use Rattle.agreement.specs.declared.Entry.{Entry}
 use Rattle.wall_run.specs.declared.Outcomes.{Outcomes}
-use Rattle.wall_run.specs.Run.{ended, entryIn, entries, markOnly, refusal, rowAfter, inPlaces, settled, refused, outcomes}
+use Rattle.wall_run.specs.Run.{ended, entryIn, entries, refusal, rowAfter, inPlaces, settled, refused, outcomes}
 
 -- what the logic reads past the end of a list of entries
 abbrev pub noEntry : Entry
@@ -68,12 +70,12 @@ module _ (p : Protocol) (sheet : List ℕ) (rows : ℕ) where
       (λ e. let a = accepted-run p sheet rows e .0 in (omega (arith, a .rows-are), a .arrays-there .range .columns-high)) (λ h. (omega arith, omega arith))
 
 -- the first n entries of those in 31 places
-pub in-places : (p : Protocol) (sheet : List ℕ) → listOf (entryAt (inPlaces p sheet (ended p sheet))) (columns sheet) ≡ entries p sheet
+pub in-places : (p : Protocol) (sheet : List ℕ) → listOf (entryAt (inPlaces sheet (ended p sheet))) (columns sheet) ≡ entries p sheet
 unfolding inPlaces entries
 in-places p sheet =
-    listOf-same (entryAt (inPlaces p sheet (ended p sheet))) (entryIn p sheet (ended p sheet)) (columns sheet) (λ i l.
-    List·getD-append (listOf (entryIn p sheet (ended p sheet)) (columns sheet)) (drop (columns sheet) (replicate 31 (markOnly 0))) noEntry i (omega (arith, length-listOf (entryIn p sheet (ended p sheet)) (columns sheet)))
-    ∙ getD-listOf (entryIn p sheet (ended p sheet)) (columns sheet) i noEntry l)
+    listOf-same (entryAt (inPlaces sheet (ended p sheet))) (entryIn sheet (ended p sheet)) (columns sheet) (λ i l.
+    List·getD-append (listOf (entryIn sheet (ended p sheet)) (columns sheet)) (drop (columns sheet) (replicate 31 (markOnly 0))) noEntry i (omega (arith, length-listOf (entryIn sheet (ended p sheet)) (columns sheet)))
+    ∙ getD-listOf (entryIn sheet (ended p sheet)) (columns sheet) i noEntry l)
 
 -- the row that is filled is the row after the run
 pub filled-is : (p : Protocol) (sheet : List ℕ) (row : List Entry) → filled (outcomes p sheet (length row)) row ≡ rowAfter p sheet row
@@ -82,6 +84,6 @@ filled-is p sheet row =
     by-refusal p sheet (length row) (λ o. listOf (entryAt (o .entries)) (o .count) ++ drop (o .count) row ≡ rowAfter p sheet row)
     (λ e.
     let a = accepted-run p sheet (length row) e .0 in
-    listOf-done (entryAt (inPlaces p sheet (ended p sheet))) (columns sheet) row (omega (arith, a .rows-are)) ∙ in-places p sheet
+    listOf-done (entryAt (inPlaces sheet (ended p sheet))) (columns sheet) row (omega (arith, a .rows-are)) ∙ in-places p sheet
     ∙ sym (simp (eq-eqb (refusal p sheet (length row)) 0 e)))
     (λ h. sym (listOf-none (entryAt (replicate 31 (markOnly 0))) row) ∙ sym (simp (ne-eqb (refusal p sheet (length row)) 0 h)))

@@ -1,27 +1,23 @@
--- The definitions of a run of a whole wall, in an agreement or in a posting. Document 01, "A whole wall": "The wall run drives n columns with
+-- The definitions of a run of a whole wall, in every protocol. Document 01, "A whole wall": "The wall run drives n columns with
 -- the same calls."; and "Posting by one column".
-use mathlib.Core.Bool.{Bool, true, false, cond}
+use mathlib.Core.Bool.{cond}
 use mathlib.Core.List.{List, _++_}
 use Prim.Native.Nat.{ℕ, zero, suc, _+_, _-_, _*_}
 use lib.Dec.{eqb}
 use lib.ListN.{length, getD, drop, replicate}
 use Rattle.lists.specs.Lists.{sum, listOf, rowsOf}
 use Rattle.field.specs.Field.{blank}
-use Rattle.sizes.specs.declared.Protocol.{Protocol}
-use Rattle.sizes.specs.declared.Protocol.the-variants.{Agreement, Posting}
-use Rattle.sizes.specs.Sizes.{roundsIn, valuesIn, lineIn, beside}
+use Rattle.protocols.specs.declared.Protocol.{Protocol}
+use Rattle.protocols.specs.Protocols.{roundsIn, valuesIn, lineIn, beside}
 use Rattle.messages.specs.Messages.{said}
-use Rattle.agreement.specs.declared.Outcome.the-variants.{Nothing, Record}
-use Rattle.agreement.specs.declared.Reply.{Reply}
-use Rattle.agreement.specs.declared.Reply.the-variants.{Ended, Refused}
 use Rattle.agreement.specs.declared.Column.{Column}
-use Rattle.agreement.specs.Calls.{fresh, noColumn, speak, written, listen, outcomeRefusal, outcome, gradeIn}
+use Rattle.agreement.specs.declared.Entry.{Entry}
+use Rattle.agreement.specs.Calls.{fresh, noColumn, speak, written, listen}
+use Rattle.agreement.specs.Entries.{markOnly, soundEntry}
 use Rattle.sheet.specs.Sheet.{columns, bytes, mark, sound, recordOf, refusal as refusalOfSheet}
 use Rattle.delivery.specs.declared.Round.{Round}
 use Rattle.delivery.specs.Delivery.{inbox}
-use Rattle.wall_run.specs.declared.Entry.{Entry}
 use Rattle.wall_run.specs.declared.Outcomes.{Outcomes}
-use Rattle.wall_run.specs.declared.Told.{Told}
 
 -- THE COLUMNS, by number, in 31 places
 
@@ -56,75 +52,50 @@ unfoldable pub blanks : ℕ → ℕ → List ℕ
 blanks n w = replicate (n * w) blank
 
 -- column i spoke: its state, and what it said
-unfoldable pub spoken : Protocol → List ℕ → ℕ → ℕ → Column → Column
-spoken p sheet w i c = cond (sound sheet i) (speak p c (blanks (columns sheet) w) .column) c
+unfoldable pub spoken : List ℕ → ℕ → ℕ → Column → Column
+spoken sheet w i c = cond (sound sheet i) (speak c (blanks (columns sheet) w) .column) c
 
-unfoldable pub words : Protocol → List ℕ → ℕ → ℕ → Column → List ℕ
-words p sheet w i c = cond (sound sheet i) (written p c (blanks (columns sheet) w)) (blanks (columns sheet) w)
+unfoldable pub words : List ℕ → ℕ → ℕ → Column → List ℕ
+words sheet w i c = cond (sound sheet i) (written c (blanks (columns sheet) w)) (blanks (columns sheet) w)
 
 -- what column j of the wall said
-unfoldable pub wordsOf : Protocol → List ℕ → ℕ → List Column → ℕ → ℕ → ℕ
-wordsOf p sheet w wall j = said (words p sheet w j (columnAt wall j))
+unfoldable pub wordsOf : List ℕ → ℕ → List Column → ℕ → ℕ → ℕ
+wordsOf sheet w wall j = said (words sheet w j (columnAt wall j))
 
 -- what all columns said, by the sender's number
-unfoldable pub mail : Protocol → List ℕ → ℕ → List Column → List ℕ
-mail p sheet w wall = rowsOf (wordsOf p sheet w wall) (columns sheet * w) (columns sheet)
+unfoldable pub mail : List ℕ → ℕ → List Column → List ℕ
+mail sheet w wall = rowsOf (wordsOf sheet w wall) (columns sheet * w) (columns sheet)
 
 -- column i listens to what the mail and the lines have for it
-unfoldable pub heard : Protocol → List ℕ → Round → List ℕ → ℕ → Column → Column
-heard p sheet round letters i c = cond (sound sheet i) (listen p c (inbox sheet round letters i) .column) c
+unfoldable pub heard : List ℕ → Round → List ℕ → ℕ → Column → Column
+heard sheet round letters i c = cond (sound sheet i) (listen c (inbox sheet round letters i) .column) c
 
 -- first all speak, then all listen
-unfoldable pub played : Protocol → List ℕ → Round → List Column → List Column
-played p sheet round wall =
-    each (columns sheet) (heard p sheet round (mail p sheet (round .width) wall)) (each (columns sheet) (spoken p sheet (round .width)) wall)
+unfoldable pub played : List ℕ → Round → List Column → List Column
+played sheet round wall =
+    each (columns sheet) (heard sheet round (mail sheet (round .width) wall)) (each (columns sheet) (spoken sheet (round .width)) wall)
 
 -- the columns after q rounds, and after all
 unfoldable pub after : Protocol → List ℕ → ℕ → List Column
 after p sheet zero = start p sheet
-after p sheet (suc q) = played p sheet (roundAt p sheet (suc q)) (after p sheet q)
+after p sheet (suc q) = played sheet (roundAt p sheet (suc q)) (after p sheet q)
 
 unfoldable pub ended : Protocol → List ℕ → List Column
 ended p sheet = after p sheet (roundsIn p (columns sheet))
 
--- THE ENTRIES. "An entry holds the mark, dispersal grade, last vote, whether the column ended on a record, and 32 record bytes, zeros past m
--- or without a record; an unsound column's entry is its mark and zeros."
-
-unfoldable pub hasRecord : Reply → Bool
-hasRecord (Ended Nothing) = false
-hasRecord (Ended Record) = true
-hasRecord (Refused why) = false
-
-unfoldable pub markOnly : ℕ → Entry
-markOnly mark = record { mark = mark; grade = 0; vote = 0; has_record = false; bytes = replicate 32 0 }
-
--- the grade that an entry shows: the dispersal grade, and of a posting "the outcome's grade"
-unfoldable pub gradeShown : Protocol → ℕ → Reply → ℕ
-gradeShown Agreement grade reply = grade
-gradeShown (Posting s) grade reply = gradeIn grade reply
-
--- of a sound column that came to c, by what it answers when it is asked for its outcome
-unfoldable pub entryAsked : Protocol → Column → Reply → List ℕ → Entry
-entryAsked p c reply bytes = record { mark = 0; grade = gradeShown p (c .grade) reply; vote = c .vote; has_record = hasRecord reply; bytes = bytes }
-
-unfoldable pub soundEntry : Protocol → Column → Entry
-soundEntry p c = entryAsked p c (outcome p c .reply) (outcome p c .bytes)
-
--- of a column that may have come to no outcome: the refusal of a call for it, and the entry, a mark and zeros where it is refused
-unfoldable pub told : Protocol → Column → Told
-told p c = record { refusal = outcomeRefusal p c; entry = cond (eqb (outcomeRefusal p c) 0) (soundEntry p c) (markOnly 0) }
+-- THE ENTRIES
 
 -- the entry of column i, which came to c
-unfoldable pub entryOf : Protocol → List ℕ → ℕ → Column → Entry
-entryOf p sheet i c = cond (sound sheet i) (soundEntry p c) (markOnly (mark sheet i))
+unfoldable pub entryOf : List ℕ → ℕ → Column → Entry
+entryOf sheet i c = cond (sound sheet i) (soundEntry c) (markOnly (mark sheet i))
 
 -- the entry of the column that i others stand before
-unfoldable pub entryIn : Protocol → List ℕ → List Column → ℕ → Entry
-entryIn p sheet wall i = entryOf p sheet (i + 1) (getD wall i noColumn)
+unfoldable pub entryIn : List ℕ → List Column → ℕ → Entry
+entryIn sheet wall i = entryOf sheet (i + 1) (getD wall i noColumn)
 
 -- "written to a lent row of entries, one for each column"
 unfoldable pub entries : Protocol → List ℕ → List Entry
-entries p sheet = listOf (entryIn p sheet (ended p sheet)) (columns sheet)
+entries p sheet = listOf (entryIn sheet (ended p sheet)) (columns sheet)
 
 -- THE RUN
 
@@ -137,11 +108,11 @@ unfoldable pub rowAfter : Protocol → List ℕ → List Entry → List Entry
 rowAfter p sheet row = cond (eqb (refusal p sheet (length row)) 0) (entries p sheet) row
 
 -- what a run comes to, for a row of `rows` entries: the entries in 31 places, zeros past n; zeros alone where it is refused
-unfoldable pub inPlaces : Protocol → List ℕ → List Column → List Entry
-inPlaces p sheet wall = listOf (entryIn p sheet wall) (columns sheet) ++ drop (columns sheet) (replicate 31 (markOnly 0))
+unfoldable pub inPlaces : List ℕ → List Column → List Entry
+inPlaces sheet wall = listOf (entryIn sheet wall) (columns sheet) ++ drop (columns sheet) (replicate 31 (markOnly 0))
 
 unfoldable pub settled : Protocol → List ℕ → Outcomes
-settled p sheet = record { refusal = 0; count = columns sheet; entries = inPlaces p sheet (ended p sheet) }
+settled p sheet = record { refusal = 0; count = columns sheet; entries = inPlaces sheet (ended p sheet) }
 
 unfoldable pub refused : ℕ → Outcomes
 refused why = record { refusal = why; count = 0; entries = replicate 31 (markOnly 0) }

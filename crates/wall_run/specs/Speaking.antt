@@ -13,12 +13,11 @@ use Rattle.lists.specs.Lists.{listOf, rowsOf}
 use Rattle.lists.specs.Entries.{length-listOf, getD-listOf, listOf-getD}
 use Rattle.lists.specs.Rows.{length-rowsOf}
 use Rattle.lists.specs.Loops.{Rowed, rowed-fits}
-use Rattle.sizes.specs.declared.Protocol.{Protocol}
-use Rattle.sizes.specs.Sizes.{valuesIn}
+use Rattle.protocols.specs.Protocols.{valuesIn, kindIn}
 use Rattle.messages.specs.Messages.{said, unlessRefused}
 use Rattle.messages.specs.Laws.{accepted}
 use Rattle.agreement.specs.declared.Column.{Column}
-use Rattle.agreement.specs.Rounds.{kindIn, voting, message, outgoing}
+use Rattle.agreement.specs.Rounds.{message, outgoing}
 use Rattle.agreement.specs.Calls.{roundOf, whenSpeaking, inState, inRound, speakRefusal, written}
 use Rattle.wall_run.specs.Run.{blanks}
 
@@ -64,21 +63,21 @@ not-said n w part e =
     ap (λ (front : List ℕ). front ++ drop (n * w) part) (listOf-getD (replicate (n * w) blank) (n * w) blank (length-replicate (n * w) blank) ∙ sym e) ∙ take-append-drop (n * w) part
 
 -- what a call to speak leaves is as long as the slice that it was lent
-written-length : (p : Protocol) (c : Column) (out : List ℕ) → length (written p c out) ≡ length out
+written-length : (c : Column) (out : List ℕ) → length (written c out) ≡ length out
 unfolding written unlessRefused speakRefusal inRound outgoing
-written-length p c out = go (eqb (speakRefusal p c (length out)) 0) refl
+written-length c out = go (eqb (speakRefusal c (length out)) 0) refl
   where
-    go : (b : Bool) → eqb (speakRefusal p c (length out)) 0 ≡ b → length (cond b (outgoing p c (roundOf (c .stage))) out) ≡ length out
+    go : (b : Bool) → eqb (speakRefusal c (length out)) 0 ≡ b → length (cond b (outgoing c (roundOf (c .stage))) out) ≡ length out
     go true e =
-        length-rowsOf (λ j. said (message (kindIn p (c .n) (roundOf (c .stage))) (voting p c) j)) (valuesIn p (c .n) (c .m) (roundOf (c .stage))) (c .n)
-        ∙ sym (accepted (inState p c (whenSpeaking (c .stage))) (c .n) (valuesIn p (c .n) (c .m) (roundOf (c .stage))) (length out) (eqb-true _ 0 e) .1)
+        length-rowsOf (λ j. said (message (kindIn (c .protocol) (c .n) (roundOf (c .stage))) c j)) (valuesIn (c .protocol) (c .n) (c .m) (roundOf (c .stage))) (c .n)
+        ∙ sym (accepted (inState c (whenSpeaking (c .stage))) (c .n) (valuesIn (c .protocol) (c .n) (c .m) (roundOf (c .stage))) (length out) (eqb-true _ 0 e) .1)
     go false e = refl
 
 -- a column that speaks fills its part: `out` is what the call left in the front of it
-pub all-said : (p : Protocol) (c : Column) (n w len : ℕ) (part out : List ℕ) → len ≡ n * w → take (n * w) part ≡ blanks n w → out ≡ written p c (take len part)
-    → out ++ drop len part ≡ listOf (said (written p c (blanks n w))) (n * w) ++ drop (n * w) part
+pub all-said : (c : Column) (n w len : ℕ) (part out : List ℕ) → len ≡ n * w → take (n * w) part ≡ blanks n w → out ≡ written c (take len part)
+    → out ++ drop len part ≡ listOf (said (written c (blanks n w))) (n * w) ++ drop (n * w) part
 unfolding said blanks
-all-said p c n w len part out e front is =
-    let wrote : out ≡ written p c (blanks n w) = is ∙ ap (λ (k : ℕ). written p c (take k part)) e ∙ ap (written p c) front in
-    let size : length (written p c (blanks n w)) ≡ n * w = written-length p c (blanks n w) ∙ length-replicate (n * w) blank in
-    rw (wrote, e) (ap (λ (l : List ℕ). l ++ drop (n * w) part) (sym (listOf-getD (written p c (blanks n w)) (n * w) blank size)))
+all-said c n w len part out e front is =
+    let wrote : out ≡ written c (blanks n w) = is ∙ ap (λ (k : ℕ). written c (take k part)) e ∙ ap (written c) front in
+    let size : length (written c (blanks n w)) ≡ n * w = written-length c (blanks n w) ∙ length-replicate (n * w) blank in
+    rw (wrote, e) (ap (λ (l : List ℕ). l ++ drop (n * w) part) (sym (listOf-getD (written c (blanks n w)) (n * w) blank size)))

@@ -1,6 +1,6 @@
 // The row of entries that a program lends.
-use crate::Entry;
 use crate::Outcomes;
+use agreement::Entry;
 ghost use mathlib.Core.Path.{_≡_};
 ghost use mathlib.Core.List.{_++_};
 ghost use Prim.Native.Nat.{_<_, _≤_};

@@ -2,7 +2,6 @@
 use crate::space;
 use agreement::Column;
 use field::Field;
-use sizes::Protocol;
 ghost use mathlib.Core.Path.{_≡_};
 ghost use mathlib.Core.List.{_++_};
 ghost use Prim.Native.Nat.{_+_, _*_, _≤_, _<_};
@@ -25,43 +24,35 @@ pub(super) fn clear(mail: &mut [u16])
 }
 
 // Column j + 1 speaks into the front of its part of the mail, if it is sound.
-fn say(
-    protocol: Protocol,
-    sheet: &[u8],
-    width: u16,
-    j: u8,
-    column: Column,
-    part: &mut [u16],
-) -> Column
+fn say(sheet: &[u8], width: u16, j: u8, column: Column, part: &mut [u16]) -> Column
     requires { ⌜ (j < 255) × (columns (now sheet) * width ≤ length (now part)) × (take (columns (now sheet) * width) (now part) ≡ blanks (columns (now sheet)) width) ⌝ }
-    ensures { λ r. ⌜ (r ≡ spoken protocol (now (sheet .entry)) width (j + 1) column)
-        × (now (part .exit) ≡ listOf (said (words protocol (now (sheet .entry)) width (j + 1) column)) (columns (now (sheet .entry)) * width) ++ drop (columns (now (sheet .entry)) * width) (now (part .entry))) ⌝ }
+    ensures { λ r. ⌜ (r ≡ spoken (now (sheet .entry)) width (j + 1) column)
+        × (now (part .exit) ≡ listOf (said (words (now (sheet .entry)) width (j + 1) column)) (columns (now (sheet .entry)) * width) ++ drop (columns (now (sheet .entry)) * width) (now (part .entry))) ⌝ }
 {
     if !sheet::sound(sheet, j + 1) {
         return column;
     }
     let len = space::of_one(sheet, width);
-    let answered = calls::speak(protocol, column, &mut part[..len]);
+    let answered = calls::speak(column, &mut part[..len]);
     answered.column
 }
 
 // All columns speak; the mail was blank.
 pub(super) fn speak_all(
-    protocol: Protocol,
     sheet: &[u8],
     width: u16,
     mut wall: [Column; 31],
     mail: &mut [u16],
 ) -> [Column; 31]
     requires { ⌜ Space (columns (now sheet)) width (now mail) ⌝ }
-    ensures { λ r. ⌜ (r ≡ each (columns (now (sheet .entry))) (spoken protocol (now (sheet .entry)) width) wall) × (now (mail .exit) ≡ mailOf protocol (now (sheet .entry)) width wall) ⌝ }
+    ensures { λ r. ⌜ (r ≡ each (columns (now (sheet .entry))) (spoken (now (sheet .entry)) width) wall) × (now (mail .exit) ≡ mailOf (now (sheet .entry)) width wall) ⌝ }
 {
     let n = sheet::columns(sheet);
     for j in 0..n {
         let i = j as usize;
         let column = wall[i];
         let at = space::of_many(sheet, width, j);
-        wall[i] = say(protocol, sheet, width, j, column, &mut mail[at..]);
+        wall[i] = say(sheet, width, j, column, &mut mail[at..]);
     }
     wall
 }

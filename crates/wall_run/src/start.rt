@@ -1,6 +1,6 @@
 // The columns of a wall before the first round.
 use agreement::Column;
-use sizes::Protocol;
+use protocols::Protocol;
 ghost use mathlib.Core.Path.{_≡_};
 ghost use Prim.Native.Nat.{_<_};
 ghost use Rattle.agreement.specs.Calls.{noColumn};

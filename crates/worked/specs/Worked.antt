@@ -6,23 +6,25 @@ use Prim.Native.Nat.{ℕ}
 use Rattle.lists.specs.Lists.{count, sum, all, listOf, rowsOf}
 use Rattle.field.specs.Field.{add, multiply, inverse, inverseBelow}
 use Rattle.block.specs.Block.{part, value}
-use Rattle.sizes.specs.declared.Protocol.the-variants.{Agreement, Posting}
-use Rattle.sizes.specs.Sizes.{faults, degree, blocks, rounds, values, line, refusal, outside, postingValues, roundsIn, valuesIn, lineIn, beside}
+use Rattle.protocols.specs.declared.Protocol.the-variants.{Agreement, Posting}
+use Rattle.sizes.specs.Sizes.{faults, degree, blocks, refusal, outside}
+use Rattle.protocols.specs.Protocols.{width, phase, phasesFrom, kinds, roundsIn, kindIn, valuesIn, lineIn, beside, posts}
 use Rattle.messages.specs.Messages.{readPoint, readReport, readBit, readByte, said, from, word as wordAt, refusal as refusalOfLength, unlessRefused, heard, heardFrom, heardOfAll, times}
 use Rattle.codeword.specs.Codeword.{point, values as valuesAt}
 use Rattle.decoder.specs.Decoder.{decoded, found, seek, through, under, slopes, answerOf, polynomialOf, coefficients}
 use Rattle.decoder.specs.declared.Decoded.the-variants.{Polynomial, Nothing}
-use Rattle.king.specs.King.{phases, bits, chosen, proposal, settled, firm, word, crowned}
+use Rattle.king.specs.King.{bits, chosen, proposal, settled, firm, word, crowned}
 use Rattle.dispersal.specs.Dispersal.{exchange, agreesIn, agreesWith, agreementAt, agreements, agrees, firstQuorum, firstReport, reportAt, reports, reported, both, secondQuorum, secondReport, readReports, grade}
 use Rattle.dissemination.specs.Dissemination.{spoken, pointsIn, points, least, often, keptPoint, keptAt, keptPoints, pointAt, blockOf, there, coefficient, isByte, isBlock, byteAt, recordOf}
-use Rattle.agreement.specs.Column.{freshColumn, freshIn, namesFit, stageFits, byteFits, flagFits, pointFits, numbersFit, arraysFit, fits}
+use Rattle.agreement.specs.Column.{freshVote, brought, freshColumn, namesFit, stageFits, byteFits, flagFits, pointFits, numbersFit, arraysFit, fits}
 use Rattle.agreement.specs.Parts.{withStage, withBytes, withProposal, withAgreements, withReports, withGrade, withVote, withKept}
 use Rattle.agreement.specs.Post.{postedBy, sentByte, postedByte, takenRecord, posted}
-use Rattle.agreement.specs.Rounds.{kingRound, laterRound, kindOf, postingKind, kindIn, voteIn, voteAfter, voting, recast, listens, votesOne, spreads, message, outgoing, received, kingSaid, graded, firstVote, resettled, outcomeOf, endsOn, hears}
-use Rattle.agreement.specs.Calls.{answerOf as answerTo, answered, orElse, freshRefusal, fresh, noColumn, roundOf, whenSpeaking, whenListening, whenAsked, inState, inRound, speakRefusal, speak, written, listenRefusal, listen, outcomeRefusal, ending, replyOf, shown, outcome, gradeIn}
+use Rattle.agreement.specs.Rounds.{voteIn, voteAfter, listens, votesOne, spreads, message, outgoing, received, kingSaid, graded, firstVote, resettled, outcomeOf, endsOn, hears}
+use Rattle.agreement.specs.Calls.{answerOf as answerTo, answered, orElse, freshRefusal, fresh, noColumn, roundOf, whenSpeaking, whenListening, whenAsked, inState, inRound, speakRefusal, speak, written, listenRefusal, listen, outcomeRefusal, ending, replyOf, shown, gradeIn, gradeShown, outcome}
+use Rattle.agreement.specs.Entries.{hasRecord, markOnly, entryAsked, soundEntry}
 use Rattle.sheet.specs.Sheet.{columns, bytes, mark, sound, unsound, unsoundTo, recordPlace, recordOf as recordIn, arrays, lineValue, whole, markFits, inOrder, refusalOfMarks, refusal as refusalOfSheet}
 use Rattle.delivery.specs.Delivery.{mailed, lied, sent, inbox}
-use Rattle.wall_run.specs.Run.{columnAt, turned, each, made, start, roundAt, blanks, spoken as spoke, words, wordsOf, mail, heard as heardBy, played, after, ended, hasRecord, markOnly, gradeShown, entryAsked, soundEntry, entryOf, entryIn, refusal as refusalOfRun, inPlaces, settled as ran, refused, outcomes}
+use Rattle.wall_run.specs.Run.{columnAt, turned, each, made, start, roundAt, blanks, spoken as spoke, words, wordsOf, mail, heard as heardBy, played, after, ended, entryOf, entryIn, refusal as refusalOfRun, inPlaces, settled as ran, refused, outcomes}
 use Rattle.listing.specs.Listing.{ascii, joined, digit, decimal, named, hexDigit, hex, hexAt, hexes, sizesLine, recordText, soundLine, unsoundLine, columnLine, lineAt, columnLines, refusedLine, listing, listingOf}
 use Rattle.worked.specs.Walls.{sheet, alike, apart, six, ten, firm as firmVotes, poster, camps, silence, favour}
 
@@ -147,7 +149,7 @@ pub record Worked : Type 0 where
   pub bytes-before-poster : listingOf (Posting 0) (4 ∷ 0 ∷ []) ≡ ascii "refused 2\n"
 
 pub worked : Worked
-unfolding postingValues roundsIn valuesIn lineIn beside readByte freshIn namesFit postingKind kindIn voteIn voteAfter voting recast postedBy sentByte postedByte takenRecord posted listens orElse gradeIn gradeShown count sum all listOf rowsOf inverse inverseBelow part value faults degree blocks rounds values line refusal outside readPoint readReport readBit said from refusalOfLength unlessRefused heard heardFrom heardOfAll times point valuesAt decoded found seek through under slopes answerOf polynomialOf phases bits chosen proposal settled firm word crowned exchange agreesIn agreesWith agreementAt agreements agrees firstQuorum firstReport reportAt reports reported both secondQuorum secondReport readReports grade spoken pointsIn points least often keptPoint keptAt keptPoints pointAt blockOf there coefficient isByte isBlock byteAt recordOf freshColumn stageFits byteFits flagFits pointFits numbersFit arraysFit fits withStage withBytes withProposal withAgreements withReports withGrade withVote withKept kingRound laterRound kindOf votesOne spreads message outgoing received kingSaid graded firstVote resettled outcomeOf endsOn hears answerTo answered freshRefusal fresh noColumn roundOf whenSpeaking whenListening whenAsked inState inRound speakRefusal speak written listenRefusal listen outcomeRefusal ending replyOf shown outcome columns bytes mark sound unsound unsoundTo recordPlace recordIn arrays wordAt lineValue whole markFits inOrder refusalOfMarks refusalOfSheet mailed lied sent inbox columnAt turned each made start roundAt blanks spoke words wordsOf mail heardBy played after ended hasRecord markOnly entryAsked soundEntry entryOf entryIn refusalOfRun inPlaces ran refused outcomes ascii joined digit decimal named hexDigit hex hexAt hexes sizesLine recordText soundLine unsoundLine columnLine lineAt columnLines refusedLine listing listingOf
+unfolding roundsIn valuesIn lineIn beside readByte namesFit kindIn voteIn voteAfter postedBy sentByte postedByte takenRecord posted listens orElse gradeIn gradeShown count sum all listOf rowsOf inverse inverseBelow part value faults degree blocks refusal outside readPoint readReport readBit said from refusalOfLength unlessRefused heard heardFrom heardOfAll times point valuesAt decoded found seek through under slopes answerOf polynomialOf bits chosen proposal settled firm word crowned exchange agreesIn agreesWith agreementAt agreements agrees firstQuorum firstReport reportAt reports reported both secondQuorum secondReport readReports grade spoken pointsIn points least often keptPoint keptAt keptPoints pointAt blockOf there coefficient isByte isBlock byteAt recordOf freshColumn stageFits byteFits flagFits pointFits numbersFit arraysFit fits withStage withBytes withProposal withAgreements withReports withGrade withVote withKept votesOne spreads message outgoing received kingSaid graded firstVote resettled outcomeOf endsOn hears answerTo answered freshRefusal fresh noColumn roundOf whenSpeaking whenListening whenAsked inState inRound speakRefusal speak written listenRefusal listen outcomeRefusal ending replyOf shown outcome columns bytes mark sound unsound unsoundTo recordPlace recordIn arrays wordAt lineValue whole markFits inOrder refusalOfMarks refusalOfSheet mailed lied sent inbox columnAt turned each made start roundAt blanks spoke words wordsOf mail heardBy played after ended hasRecord markOnly entryAsked soundEntry entryOf entryIn refusalOfRun inPlaces ran refused outcomes ascii joined digit decimal named hexDigit hex hexAt hexes sizesLine recordText soundLine unsoundLine columnLine lineAt columnLines refusedLine listing listingOf width phase phasesFrom kinds freshVote brought posts
 worked =
     record {
       sizes-of-4 = (refl, refl);

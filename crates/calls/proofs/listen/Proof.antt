@@ -24,17 +24,11 @@ kind-in-requires : tie.Need-kind-in-requires
 kind-in-requires c κs = search needs
 
 add-t12 : tie.Need-add-t12
-add-t12 c = let t = may-listen _ _ _ (sym (c .before .before .before .to-listen .ensures) ∙ c .before .before .if1 .left) in
+add-t12 c = let t = may-listen _ _ (sym (c .before .before .before .to-listen .ensures) ∙ c .before .before .if1 .left) in
     record { fits = omega (arith, c .before .round-of .ensures, t .few) }
-
-voting-requires : tie.Need-voting-requires
-voting-requires c κs = search needs
 
 hear-requires : tie.Need-hear-requires
 hear-requires c κs = search needs
-
-recast-requires : tie.Need-recast-requires
-recast-requires c κs = search needs
 
 answered-requires-2 : tie.Need-answered-requires-2
 answered-requires-2 c κs = search needs
@@ -42,9 +36,9 @@ answered-requires-2 c κs = search needs
 returns-2 : tie.Need-returns-2
 unfolding listen
 returns-2 c =
-    let b = c .before .before .before in
-    let asked = b .before .before .before .before .before .to-listen .ensures in
-    rw (c .answered2 .ensures, c .before .recast .ensures, b .hear .ensures, b .before .voting .ensures, b .before .before .kind-in .ensures, b .before .before .before .round-of .ensures, heard-is _ _ _ (sym asked ∙ b .before .before .before .before .if1 .left), asked) refl
+    let b = c .before .before in
+    let asked = b .before .before .before .before .to-listen .ensures in
+    rw (c .answered2 .ensures, b .hear .ensures, b .before .kind-in .ensures, b .before .before .round-of .ensures, heard-is _ _ (sym asked ∙ b .before .before .before .if1 .left), asked) refl
 
 pub listen-spec : {M : Type 1} → statement M
 listen-spec =
@@ -56,8 +50,6 @@ listen-spec =
     round-of-requires
     kind-in-requires
     add-t12
-    voting-requires
     hear-requires
-    recast-requires
     answered-requires-2
     returns-2)

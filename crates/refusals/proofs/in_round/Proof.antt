@@ -1,8 +1,6 @@
 -- `in_round` meets its contract.
 use mathlib.Core.Path.{refl}
-use native.Mathlib.Omega.{arith}
 use borrow.Author.Needs.{needs}
-use Rattle.sizes.specs.Laws.{values-in-le}
 use Rattle.agreement.specs.Calls.{inRound}
 use Rattle.refusals.proofs.in_round.Statement.{statement}
 use Rattle.refusals.proofs.in_round.Tie as tie
@@ -15,9 +13,6 @@ values-in-requires c κs = search needs
 
 in-state-requires : tie.Need-in-state-requires
 in-state-requires c κs = search needs
-
-cast-refusal : tie.Need-cast-refusal
-cast-refusal c = let a = c .before .before .before .args in omega (arith, c .before .values-in .ensures, values-in-le (a .protocol) (a .column .n) (a .column .m) (c .before .before .round-of .result))
 
 refusal-requires : tie.Need-refusal-requires
 refusal-requires c κs = search needs
@@ -33,6 +28,5 @@ in-round-spec =
     round-of-requires
     values-in-requires
     in-state-requires
-    cast-refusal
     refusal-requires
     returns)

@@ -1,10 +1,27 @@
 -- `column` meets its contract.
 use mathlib.Core.Path.{refl}
+use Rattle.state_bytes.specs.Layout.{columnOf}
 use borrow.Author.Needs.{needs}
-use Rattle.messages.specs.Messages.{word}
-use Rattle.state_bytes.specs.Layout.{decode}
 use Rattle.state_bytes.proofs.column.Statement.{statement}
 use Rattle.state_bytes.proofs.column.Tie as tie
+
+array-read-protocol-of : tie.Need-array-read-protocol-of
+array-read-protocol-of c = search needs
+
+array-read-protocol-of-2 : tie.Need-array-read-protocol-of-2
+array-read-protocol-of-2 c = search needs
+
+protocol-of-requires : tie.Need-protocol-of-requires
+protocol-of-requires c κs = search needs
+
+array-read-n : tie.Need-array-read-n
+array-read-n c = search needs
+
+array-read-m : tie.Need-array-read-m
+array-read-m c = search needs
+
+array-read-own : tie.Need-array-read-own
+array-read-own c = search needs
 
 array-read-stage : tie.Need-array-read-stage
 array-read-stage c = search needs
@@ -14,6 +31,21 @@ array-read-stage-2 c = search needs
 
 stage-requires : tie.Need-stage-requires
 stage-requires c κs = search needs
+
+array-read-grade : tie.Need-array-read-grade
+array-read-grade c = search needs
+
+array-read-vote : tie.Need-array-read-vote
+array-read-vote c = search needs
+
+array-read-firm : tie.Need-array-read-firm
+array-read-firm c = search needs
+
+slice-aggregate-word : tie.Need-slice-aggregate-word
+slice-aggregate-word c = search needs
+
+word-requires : tie.Need-word-requires
+word-requires c κs = search needs
 
 slice-aggregate-bytes : tie.Need-slice-aggregate-bytes
 slice-aggregate-bytes c = search needs
@@ -36,44 +68,19 @@ flags-requires-2 c κs = search needs
 words-requires : tie.Need-words-requires
 words-requires c κs = search needs
 
-array-read-t10 : tie.Need-array-read-t10
-array-read-t10 c = search needs
-
-array-read-t13 : tie.Need-array-read-t13
-array-read-t13 c = search needs
-
-array-read-t27 : tie.Need-array-read-t27
-array-read-t27 c = search needs
-
-array-read-word : tie.Need-array-read-word
-array-read-word c = search needs
-
-array-read-word-2 : tie.Need-array-read-word-2
-array-read-word-2 c = search needs
-
-word-requires : tie.Need-word-requires
-word-requires c κs = search needs
-
-array-read-t37 : tie.Need-array-read-t37
-array-read-t37 c = search needs
-
-array-read-t40 : tie.Need-array-read-t40
-array-read-t40 c = search needs
-
-array-read-t43 : tie.Need-array-read-t43
-array-read-t43 c = search needs
-
 returns : tie.Need-returns
-unfolding decode word
+unfolding columnOf
 returns c =
-    let b = c .before .before .before .before .before .before in
+    let b = c .before .before .before .before .before in
+    let w = b .before .before in
     rw (
-      c .word .ensures,
-      c .before .words .ensures,
-      c .before .before .flags2 .ensures,
-      c .before .before .before .before .flags .ensures,
+      c .words .ensures,
+      c .before .flags2 .ensures,
+      c .before .before .before .flags .ensures,
       b .bytes .ensures,
-      b .before .before .stage .ensures,
+      w .word .ensures,
+      w .before .before .stage .ensures,
+      w .before .before .before .protocol-of .ensures,
     )
     refl
 
@@ -81,9 +88,20 @@ pub column-spec : {M : Type 1} → statement M
 column-spec =
     tie.close
     (tie.spec
+    array-read-protocol-of
+    array-read-protocol-of-2
+    protocol-of-requires
+    array-read-n
+    array-read-m
+    array-read-own
     array-read-stage
     array-read-stage-2
     stage-requires
+    array-read-grade
+    array-read-vote
+    array-read-firm
+    slice-aggregate-word
+    word-requires
     slice-aggregate-bytes
     bytes-requires
     slice-aggregate-flags
@@ -91,13 +109,4 @@ column-spec =
     slice-aggregate-flags-2
     flags-requires-2
     words-requires
-    array-read-t10
-    array-read-t13
-    array-read-t27
-    array-read-word
-    array-read-word-2
-    word-requires
-    array-read-t37
-    array-read-t40
-    array-read-t43
     returns)

@@ -1,8 +1,7 @@
 -- `decode` meets its contract.
 use mathlib.Core.Path.{ap, _∙_}
 use borrow.Author.Needs.{needs}
-use Rattle.state_bytes.specs.Layout.{decode}
-use Rattle.state_bytes.specs.Whole.{decode-whole}
+use Rattle.state_bytes.specs.Layout.{columnOf, decode}
 use Rattle.state_bytes.proofs.decode.Statement.{statement}
 use Rattle.state_bytes.proofs.decode.Tie as tie
 
@@ -13,7 +12,8 @@ column-requires : tie.Need-column-requires
 column-requires c κs = search needs
 
 returns : tie.Need-returns
-returns c = c .column .ensures ∙ ap decode (c .before .whole .ensures) ∙ decode-whole _
+unfolding decode
+returns c = c .column .ensures ∙ ap columnOf (c .before .whole .ensures)
 
 pub decode-spec : {M : Type 1} → statement M
 decode-spec = tie.close (tie.spec whole-requires column-requires returns)

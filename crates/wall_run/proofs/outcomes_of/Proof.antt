@@ -32,7 +32,7 @@ cast-t11 c = search needs
 
 returns-2 : tie.Need-returns-2
 unfolding settled
-returns-2 c = sym (run-settled (c .before .before .before .before .before .before .args .protocol) (c .before .before .before .before .before .before .args .sheet .now) (c .before .before .before .before .before .before .args .rows) (sym (c .before .before .before .before .refusal .ensures) ∙ c .before .before .before .if1 .left) ∙ ap₂ {C = Outcomes} (λ n es. record { refusal = 0; count = n; entries = es }) (sym (c .columns .ensures)) (sym (c .before .all .ensures ∙ ap (inPlaces (c .before .before .before .before .before .before .args .protocol) (c .before .before .before .before .before .before .args .sheet .now)) (c .before .before .ended .ensures))))
+returns-2 c = sym (run-settled (c .before .before .before .before .before .before .args .protocol) (c .before .before .before .before .before .before .args .sheet .now) (c .before .before .before .before .before .before .args .rows) (sym (c .before .before .before .before .refusal .ensures) ∙ c .before .before .before .if1 .left) ∙ ap₂ {C = Outcomes} (λ n es. record { refusal = 0; count = n; entries = es }) (sym (c .columns .ensures)) (sym (c .before .all .ensures ∙ ap (inPlaces (c .before .before .before .before .before .before .args .sheet .now)) (c .before .before .ended .ensures))))
 
 pub outcomes-of-spec : {M : Type 1} → statement M
 outcomes-of-spec =

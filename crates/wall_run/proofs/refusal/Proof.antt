@@ -2,10 +2,10 @@
 use borrow.Author.Needs.{needs}
 use mathlib.Core.Path.{refl}
 use native.Mathlib.Omega.{arith}
-use Rattle.sizes.specs.Laws.{line-in-le}
 use Rattle.wall_run.specs.Run.{refusal}
 use Rattle.wall_run.proofs.refusal.Statement.{statement}
 use Rattle.wall_run.proofs.refusal.Tie as tie
+use Rattle.protocols.specs.Laws.{line-in-le}
 
 columns-requires : tie.Need-columns-requires
 columns-requires c κs = search needs

@@ -39,15 +39,15 @@ use denote.Triple.Clauses.{Clauses, ensured, lasts}
 use denote.Triple.Walked.{says, Stays, gave-slice, stay-dropped, walkOf, goes-dropped, goes-gave-slice, Walks, ends-at, walked, walk-meets}
 use denote.Exit.{yes}
 use Rattle.lists.specs.Lists.{listOf}
-use Rattle.sizes.specs.declared.Protocol.{Protocol}
-use Rattle.sizes.proofs.Protocol as P
-use Rattle.sizes.proofs.Protocol.Laws as P′
+use Rattle.protocols.specs.declared.Protocol.{Protocol}
+use Rattle.protocols.proofs.Protocol as P
+use Rattle.protocols.proofs.Protocol.Laws as P′
 use Rattle.wall_run.specs.Run.{outcomes}
 use Rattle.wall_run.specs.Row.{entryAt, filled, outcomes-refusal, outcomes-fit, filled-is}
-use Rattle.wall_run.specs.declared.Entry.{Entry}
+use Rattle.agreement.specs.declared.Entry.{Entry}
 use Rattle.wall_run.specs.declared.Outcomes.{Outcomes}
 use Rattle.wall_run.proofs.Walk.{by-number, var, field-of, sets}
-use Rattle.wall_run.proofs.Entry as T
+use Rattle.agreement.proofs.Entry as T
 use Rattle.wall_run.proofs.Outcomes as O
 use Rattle.wall_run.proofs.Outcomes.Laws as O′
 use Rattle.wall_run.proofs.outcomes_of as outcomes-of

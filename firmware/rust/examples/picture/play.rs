@@ -1,6 +1,6 @@
 //! A run of a wall, round by round, by the proved calls alone.
 use crate::sheet::Sheet;
-use locker_column::{Agreement, BLANK, Column, Entry, Posting, Protocol, Refusal, STATE_BYTES};
+use locker_column::{BLANK, Column, Entry, Refusal, STATE_BYTES, place};
 
 /// A column's state, by the layout of include/column.h.
 pub struct State([u8; STATE_BYTES]);
@@ -8,47 +8,47 @@ pub struct State([u8; STATE_BYTES]);
 impl State {
     /// The columns of the wall: so many of the flags are used.
     fn n(&self) -> usize {
-        self.0[2].into()
+        self.0[place::N].into()
     }
 
     /// 0, 1 or 2, once the second reports came.
     pub fn grade(&self) -> u8 {
-        self.0[7]
+        self.0[place::GRADE]
     }
 
     /// 0 or 1.
     pub fn vote(&self) -> u8 {
-        self.0[8]
+        self.0[place::VOTE]
     }
 
     /// Whether no king can change the vote in this phase.
     pub fn firm(&self) -> bool {
-        self.0[9] != 0
+        self.0[place::FIRM] != 0
     }
 
     /// 0, 1 or blank.
     pub fn proposal(&self) -> u16 {
-        u16::from_le_bytes([self.0[10], self.0[11]])
+        u16::from_le_bytes([self.0[place::PROPOSAL], self.0[place::PROPOSAL + 1]])
     }
 
     /// The bytes of the record.
     pub fn record(&self) -> &[u8] {
-        &self.0[12..12 + usize::from(self.0[3])]
+        &self.0[place::RECORD..][..usize::from(self.0[place::M])]
     }
 
     /// A flag for each column: whether it agrees with it.
     pub fn agreements(&self) -> &[u8] {
-        &self.0[44..44 + self.n()]
+        &self.0[place::AGREEMENTS..][..self.n()]
     }
 
     /// A flag for each column: whether its first report came.
     pub fn reports(&self) -> &[u8] {
-        &self.0[75..75 + self.n()]
+        &self.0[place::REPORTS..][..self.n()]
     }
 
     /// The kept point of each block, or blank.
     pub fn kept(&self, blocks: usize) -> Vec<u16> {
-        self.0[106..106 + 2 * blocks].chunks(2).map(|pair| u16::from_le_bytes([pair[0], pair[1]])).collect()
+        self.0[place::KEPT..][..2 * blocks].chunks(2).map(|pair| u16::from_le_bytes([pair[0], pair[1]])).collect()
     }
 }
 
@@ -106,16 +106,16 @@ impl Run {
     /// The run of a sheet: an agreement, or a posting by a column.
     pub fn of(sheet: &Sheet, poster: Option<u32>) -> Result<Run, Refusal> {
         let (n, m) = (sheet.n as u32, sheet.m as u32);
-        let records = (1..).zip(&sheet.records);
-        match poster {
-            None => Run::play(sheet, records.map(|(own, record)| Column::<Agreement>::fresh(n, m, own, record)).collect::<Result<_, _>>()?),
-            Some(s) => Run::play(sheet, records.map(|(own, record)| Column::<Posting>::fresh(n, m, own, s, record)).collect::<Result<_, _>>()?),
-        }
+        let fresh = |(own, record): (u32, &Vec<u8>)| match poster {
+            None => Column::fresh(n, m, own, record),
+            Some(poster) => Column::posting(n, m, own, poster, record),
+        };
+        Run::play(sheet, (1..).zip(&sheet.records).map(fresh).collect::<Result<_, _>>()?)
     }
 
     /// All rounds: every column speaks, then every column listens.
-    fn play<P: Protocol>(sheet: &Sheet, mut columns: Vec<Column<P>>) -> Result<Run, Refusal> {
-        let states = |columns: &[Column<P>]| columns.iter().map(|column| State(*column.bytes())).collect();
+    fn play(sheet: &Sheet, mut columns: Vec<Column>) -> Result<Run, Refusal> {
+        let states = |columns: &[Column]| columns.iter().map(|column| State(*column.bytes())).collect();
         let fresh = states(&columns);
         let mut rounds = Vec::new();
         for (round, &width) in sheet.widths.iter().enumerate() {

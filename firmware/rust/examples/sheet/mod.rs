@@ -1,5 +1,5 @@
 //! A planner's sheet, taken apart: what every example that plays one needs.
-use locker_column::{Entry, POSTING_ROUNDS, Refusal, posting_values, posting_wall, rounds, values, wall};
+use locker_column::{Entry, Protocol, Refusal, posting_wall, rounds, values, wall};
 
 /// What an unsound column says: by receiver, then by round, the values of the message.
 pub type Lines = Vec<Vec<Vec<u16>>>;
@@ -20,7 +20,7 @@ impl Sheet {
     /// Of bytes that are accepted as a sheet of an agreement, or of a posting.
     pub fn of(bytes: &[u8], posting: bool) -> Sheet {
         let (n, m) = (bytes[0].into(), bytes[1].into());
-        let widths = widths(bytes[0].into(), bytes[1].into(), posting);
+        let widths = widths(if posting { Protocol::Posting } else { Protocol::Agreement }, bytes[0].into(), bytes[1].into());
         let (marks, rest) = bytes[2..].split_at(n);
         let (records, rest) = rest.split_at(n * m);
         let mut values = rest.chunks(2).map(|pair| u16::from_le_bytes([pair[0], pair[1]]));
@@ -48,11 +48,8 @@ impl Sheet {
 }
 
 /// The values of a message, round by round.
-fn widths(n: u32, m: u32, posting: bool) -> Vec<usize> {
-    if posting {
-        return (1..=POSTING_ROUNDS as u32).map(|round| posting_values(n, m, round)).collect();
-    }
-    (1..=rounds(n) as u32).map(|round| values(n, m, round)).collect()
+fn widths(protocol: Protocol, n: u32, m: u32) -> Vec<usize> {
+    (1..=rounds(protocol, n) as u32).map(|round| values(protocol, n, m, round)).collect()
 }
 
 /// The entries that the wall run gives, or why the bytes are no sheet. That the library knows; nothing is tested here.

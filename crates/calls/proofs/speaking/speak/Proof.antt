@@ -26,14 +26,11 @@ returns c = let r = c .before .before .before .before .before .before in
     let a = t .before .before .args in
     let e : c .answered .result ≡ answered (t .to-speak .result) (withStage (Listen (r .round-of .result)) (a .column)) (a .column) = c .answered .ensures in (
       rw (e, t .to-speak .ensures, r .round-of .ensures) refl,
-      sym (if-refused _ _ _ (c .before .if1 .taken)) ∙ written-is (a .protocol) (a .column) (a .out .now) (t .to-speak .result) (r .round-of .result) (t .to-speak .ensures) (r .round-of .ensures),
+      sym (if-refused _ _ _ (c .before .if1 .taken)) ∙ written-is (a .column) (a .out .now) (t .to-speak .result) (r .round-of .result) (t .to-speak .ensures) (r .round-of .ensures),
     )
 
 kind-in-requires : tie.Need-kind-in-requires
 kind-in-requires c κs = search needs
-
-voting-requires : tie.Need-voting-requires
-voting-requires c κs = search needs
 
 say-requires : tie.Need-say-requires
 say-requires c κs = search needs
@@ -48,7 +45,7 @@ returns-2 : tie.Need-returns-2
 unfolding speak withStage
 returns-2 c = let s = c .before .before .before in
     let v = s .before .before in
-    let i = v .before .before in
+    let i = v .before in
     let r = i .before .before .before .before .before in
     let t = r .before in
     let a = t .before .before .args in
@@ -56,8 +53,8 @@ returns-2 c = let s = c .before .before .before in
     let left = i .if1 .left in (
       rw (e, t .to-speak .ensures, r .round-of .ensures) refl,
       s .say .ensures .1
-          ∙ rw (v .before .kind-in .ensures, v .voting .ensures, r .round-of .ensures) (if-done _ _ _ (may-speak (a .protocol) (a .column) (length (a .out .now)) (sym (t .to-speak .ensures) ∙ left) .accepts) ∙ sym (if-done _ _ _ left))
-          ∙ written-is (a .protocol) (a .column) (a .out .now) (t .to-speak .result) (r .round-of .result) (t .to-speak .ensures) (r .round-of .ensures),
+          ∙ rw (v .kind-in .ensures, r .round-of .ensures) (if-done _ _ _ (may-speak (a .column) (length (a .out .now)) (sym (t .to-speak .ensures) ∙ left) .accepts) ∙ sym (if-done _ _ _ left))
+          ∙ written-is (a .column) (a .out .now) (t .to-speak .result) (r .round-of .result) (t .to-speak .ensures) (r .round-of .ensures),
     )
 
 pub speak-spec : {M : Type 1} → statement M
@@ -69,7 +66,6 @@ speak-spec =
     answered-requires
     returns
     kind-in-requires
-    voting-requires
     say-requires
     answered-requires-2
     same-length

@@ -16,6 +16,9 @@ loop-holds c = omega arith
 spoken-requires : tie.Need-spoken-requires Inv-loop μ-loop
 spoken-requires c κs = tt
 
+word-requires : tie.Need-word-requires Inv-loop μ-loop
+word-requires c κs = tt
+
 listened-requires : tie.Need-listened-requires Inv-loop μ-loop
 listened-requires c κs = tt
 
@@ -34,4 +37,4 @@ returns c = tt
 pub ended-spec : {M : Type 1} → statement M
 ended-spec =
     tie.close
-    (tie.spec Inv-loop μ-loop loop-holds spoken-requires listened-requires add-round loop-less loop-again returns)
+    (tie.spec Inv-loop μ-loop loop-holds spoken-requires word-requires listened-requires add-round loop-less loop-again returns)

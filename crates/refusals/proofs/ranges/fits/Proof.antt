@@ -21,7 +21,7 @@ arrays-fit-requires : tie.Need-arrays-fit-requires
 unfolding numbersFit namesFit
 arrays-fit-requires c κs =
     let a = c .before .before .args in
-    let t : T (numbersFit (a .protocol) (a .column)) = passes _ (sym (c .before .numbers-fit .ensures) ∙ not-false _ (c .if1 .left)) in
+    let t : T (numbersFit (a .column)) = passes _ (sym (c .before .numbers-fit .ensures) ∙ not-false _ (c .if1 .left)) in
     let e : T (eqb (refusal (a .column .n) (a .column .m) (a .column .own)) 0) = search conj in
     accepted _ _ _ (eqb→eq _ 0 e) .range
 

@@ -4,10 +4,11 @@ use borrow.Author.Needs.{needs}
 use Rattle.messages.specs.Laws.{if-done}
 use Rattle.dispersal.specs.Dispersal.{exchanges}
 use Rattle.agreement.specs.Rounds.{message}
-use Rattle.rounds.specs.Rounds.{toColumns, width}
+use Rattle.rounds.specs.Rounds.{toColumns}
 use Rattle.rounds.specs.Ready.{exchange-accepted}
 use Rattle.rounds.proofs.exchange.say.Statement.{statement}
 use Rattle.rounds.proofs.exchange.say.Tie as tie
+use Rattle.protocols.specs.Protocols.{width}
 
 send-requires : tie.Need-send-requires
 send-requires c κs = search needs

@@ -1,7 +1,7 @@
 -- `phases::hear_proposals` meets its contract.
 use mathlib.Core.Path.{_≡_, refl}
 use borrow.Author.Needs.{needs}
-use Rattle.agreement.specs.declared.Kind.the-variants.{Proposals}
+use Rattle.protocols.specs.declared.Kind.the-variants.{Proposals}
 use Rattle.agreement.specs.Parts.{withStage, withVote}
 use Rattle.agreement.specs.Rounds.{hears, received, message, resettled}
 use Rattle.rounds.proofs.phases.hear_proposals.Statement.{statement}

@@ -1,10 +1,8 @@
 -- `reports::hear_second` meets its contract.
 use mathlib.Core.Path.{refl}
 use borrow.Author.Needs.{needs}
-use Rattle.messages.specs.Messages.{said}
 use Rattle.agreement.specs.Parts.{withStage, withGrade, withVote}
 use Rattle.agreement.specs.Rounds.{hears, received, message, graded}
-use Rattle.rounds.specs.Ready.{hasOne, word}
 use Rattle.rounds.proofs.reports.hear_second.Statement.{statement}
 use Rattle.rounds.proofs.reports.hear_second.Tie as tie
 
@@ -20,14 +18,18 @@ grade-requires c κs = search needs
 first-vote-requires : tie.Need-first-vote-requires
 first-vote-requires c κs = search needs
 
+vote-after-requires : tie.Need-vote-after-requires
+vote-after-requires c κs = search needs
+
 returns : tie.Need-returns
-unfolding hears withStage received withGrade withVote graded message hasOne word said
+unfolding hears withStage received withGrade withVote graded message
 returns c =
-    let g = c .before .before .before .before .before in
+    let v = c .before .before .before .before in
+    let g = v .before .before in
     let r = g .before .before .before in
-    rw (c .before .before .before .before .first-vote .ensures, g .grade .ensures, r .received .ensures, r .before .second-report .ensures) refl
+    rw (v .vote-after .ensures, v .before .first-vote .ensures, g .grade .ensures, r .received .ensures, r .before .second-report .ensures) refl
 
 pub hear-second-spec : {M : Type 1} → statement M
 hear-second-spec =
     tie.close
-    (tie.spec second-report-requires received-requires grade-requires first-vote-requires returns)
+    (tie.spec second-report-requires received-requires grade-requires first-vote-requires vote-after-requires returns)

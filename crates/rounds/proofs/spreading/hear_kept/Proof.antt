@@ -5,8 +5,8 @@ use borrow.Author.Needs.{needs}
 use Rattle.agreement.specs.declared.Stage.the-variants.{Ended}
 use Rattle.agreement.specs.declared.Outcome.the-variants.{Record}
 use Rattle.agreement.specs.Parts.{withStage, withBytes}
-use Rattle.agreement.specs.declared.Kind.the-variants.{KeptPoints}
-use Rattle.rounds.specs.Rounds.{width}
+use Rattle.protocols.specs.declared.Kind.the-variants.{KeptPoints}
+use Rattle.protocols.specs.Protocols.{width}
 use Rattle.rounds.specs.Ready.{points-heard}
 use Rattle.rounds.specs.Endings.{ends-silent, ends-none, ends-record}
 use Rattle.rounds.proofs.spreading.hear_kept.Statement.{statement}

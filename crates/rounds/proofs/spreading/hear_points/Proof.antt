@@ -2,10 +2,10 @@
 use mathlib.Core.Path.{refl}
 use borrow.Author.Needs.{needs}
 use Rattle.dissemination.specs.Laws.{kept-points}
-use Rattle.agreement.specs.declared.Kind.the-variants.{Points}
+use Rattle.protocols.specs.declared.Kind.the-variants.{Points}
+use Rattle.protocols.specs.Protocols.{width}
 use Rattle.agreement.specs.Parts.{withStage, withKept}
 use Rattle.agreement.specs.Rounds.{hears}
-use Rattle.rounds.specs.Rounds.{width}
 use Rattle.rounds.specs.Ready.{points-heard}
 use Rattle.rounds.proofs.spreading.hear_points.Statement.{statement}
 use Rattle.rounds.proofs.spreading.hear_points.Tie as tie

@@ -3,9 +3,10 @@ use mathlib.Core.Path.{refl, _∙_}
 use borrow.Author.Needs.{needs}
 use Rattle.messages.specs.Messages.{toAll}
 use Rattle.messages.specs.Laws.{if-done}
-use Rattle.agreement.specs.declared.Kind.the-variants.{KeptPoints}
+use Rattle.protocols.specs.declared.Kind.the-variants.{KeptPoints}
+use Rattle.protocols.specs.Protocols.{width}
 use Rattle.agreement.specs.Rounds.{message}
-use Rattle.rounds.specs.Rounds.{toColumns, width}
+use Rattle.rounds.specs.Rounds.{toColumns}
 use Rattle.rounds.specs.Ready.{points-said}
 use Rattle.rounds.proofs.spreading.say_kept.Statement.{statement}
 use Rattle.rounds.proofs.spreading.say_kept.Tie as tie

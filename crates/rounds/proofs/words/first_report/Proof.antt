@@ -1,8 +1,5 @@
 -- `words::first_report` meets its contract.
 use borrow.Author.Needs.{needs}
-use Rattle.messages.specs.Messages.{said}
-use Rattle.agreement.specs.Rounds.{message}
-use Rattle.rounds.specs.Ready.{word, hasOne}
 use Rattle.rounds.proofs.words.first_report.Statement.{statement}
 use Rattle.rounds.proofs.words.first_report.Tie as tie
 
@@ -10,7 +7,6 @@ first-requires : tie.Need-first-requires
 first-requires c κs = search needs
 
 returns : tie.Need-returns
-unfolding word hasOne said message
 returns c = c .first .ensures
 
 pub first-report-spec : {M : Type 1} → statement M

@@ -1,8 +1,5 @@
 -- `words::second_report` meets its contract.
 use borrow.Author.Needs.{needs}
-use Rattle.messages.specs.Messages.{said}
-use Rattle.agreement.specs.Rounds.{message}
-use Rattle.rounds.specs.Ready.{word, hasOne}
 use Rattle.rounds.proofs.words.second_report.Statement.{statement}
 use Rattle.rounds.proofs.words.second_report.Tie as tie
 
@@ -10,7 +7,6 @@ second-requires : tie.Need-second-requires
 second-requires c κs = search needs
 
 returns : tie.Need-returns
-unfolding word hasOne said message
 returns c = c .second .ensures
 
 pub second-report-spec : {M : Type 1} → statement M

@@ -3,14 +3,15 @@ use Prim.Native.Nat.{_-_}
 use native.Mathlib.Omega.{arith}
 use lib.ListN.{getD}
 use Rattle.lists.specs.Loops.{Filled, filled-none, filled-more, filled-done}
+use Rattle.state_bytes.specs.Layout.{stateLength, whole}
 use Rattle.state_bytes.proofs.reading.padded.Statement.{statement}
 use Rattle.state_bytes.proofs.reading.padded.Tie as tie
 
 abbrev Inv-loop : tie.InvT-loop
-Inv-loop state all₀ i₀ all i = Filled (λ p. getD state p 0) 170 all₀ all i
+Inv-loop state all₀ i₀ all i = Filled (λ p. getD state p 0) stateLength all₀ all i
 
 abbrev μ-loop : tie.MeasureT-loop
-μ-loop state all₀ i₀ all i = 170 - i
+μ-loop state all₀ i₀ all i = stateLength - i
 
 loop-holds : tie.Need-loop-holds Inv-loop μ-loop
 loop-holds c = filled-none _ _ _ (omega arith)
@@ -31,6 +32,7 @@ loop-again : tie.Need-loop-again Inv-loop μ-loop
 loop-again c = filled-more _ _ _ _ _ _ (c .before .before .loop .inv) (omega arith) (c .byte .ensures)
 
 returns : tie.Need-returns Inv-loop μ-loop
+unfolding whole
 returns c = filled-done _ _ _ _ _ (c .before .loop .inv) (omega arith) (omega arith)
 
 pub padded-spec : {M : Type 1} → statement M

@@ -4,14 +4,15 @@ use Prim.Native.Nat.{_-_}
 use native.Mathlib.Omega.{arith}
 use lib.ListN.{getD}
 use Rattle.lists.specs.Loops.{Filled, filled-none, filled-more, filled-done}
+use Rattle.state_bytes.specs.Layout.{stateLength, whole}
 use Rattle.state_bytes.proofs.reading.whole.Statement.{statement}
 use Rattle.state_bytes.proofs.reading.whole.Tie as tie
 
 abbrev Inv-loop : tie.InvT-loop
-Inv-loop state all₀ i₀ all i = Filled (λ p. getD state p 0) 170 all₀ all i
+Inv-loop state all₀ i₀ all i = Filled (λ p. getD state p 0) stateLength all₀ all i
 
 abbrev μ-loop : tie.MeasureT-loop
-μ-loop state all₀ i₀ all i = 170 - i
+μ-loop state all₀ i₀ all i = stateLength - i
 
 padded-requires : tie.Need-padded-requires Inv-loop μ-loop
 padded-requires c κs = tt
@@ -38,6 +39,7 @@ loop-again : tie.Need-loop-again Inv-loop μ-loop
 loop-again c = filled-more _ _ _ _ _ _ (c .before .before .loop .inv) (omega arith) refl
 
 returns-2 : tie.Need-returns-2 Inv-loop μ-loop
+unfolding whole
 returns-2 c = filled-done _ _ _ _ _ (c .before .loop .inv) (omega arith) (omega arith)
 
 pub whole-spec : {M : Type 1} → statement M

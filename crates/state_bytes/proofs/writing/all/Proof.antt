@@ -1,11 +1,12 @@
 -- `writing::all` meets its contract.
-use mathlib.Core.Path.{_≡_, refl}
+use mathlib.Core.Path.{_≡_, refl, _∙_}
+use mathlib.Core.List.{append-assoc, append-nil}
 use Prim.Native.Nat.{ℕ}
 use native.Mathlib.Omega.{arith}
-use lib.ListN.{length}
+use lib.ListN.{length, take}
 use Rattle.lists.specs.Lists.{listOf}
 use Rattle.lists.specs.Entries.{length-listOf}
-use Rattle.state_bytes.specs.Layout.{flagByte, pointByte, numbers, encode}
+use Rattle.state_bytes.specs.Layout.{Bytes, Agreements, Reports, Kept, offset, lengthOf, stateLength, flagByte, pointByte, part, joined, encode}
 use Rattle.state_bytes.specs.Writing.{fronted-first, fronted-more, fronted-all}
 use borrow.Author.Needs.{needs, length-unmapped}
 use Rattle.state_bytes.proofs.writing.all.Statement.{statement}
@@ -93,7 +94,7 @@ same-length : tie.Need-same-length
 same-length c = search needs
 
 returns : tie.Need-returns
-unfolding encode numbers
+unfolding encode joined part
 returns c =
     let four = c .before .before .before .before .before in
     let three = four .before .before .before .before .before in
@@ -102,17 +103,17 @@ returns c =
     let made = one .before .before .before .before .before in
     let start = made .before .before .before .before .before .before .before .before .before in
     let a = start .args in
-    let long : length (a .state .now) ≡ 170 = start .pre in
-    let whole : length (a .column .bytes) ≡ 32 = length-unmapped ℕ (a .column .bytes) 32 (start .good .1 .0 .1 .1 .1 .1 .1 .0 .1 .0 .1) in
+    let long : length (a .state .now) ≡ stateLength = start .pre in
+    let whole : length (a .column .bytes) ≡ 32 = length-unmapped ℕ (a .column .bytes) 32 (start .good .0 .1 .1 .1 .1 .1 .1 .0 .1 .0 .1) in
     let agreed : made .before .before .flag-bytes .result ≡ listOf (flagByte (a .column .agreements)) 31 = made .before .before .flag-bytes .ensures in
     let reported : made .before .flag-bytes2 .result ≡ listOf (flagByte (a .column .reports)) 31 = made .before .flag-bytes2 .ensures in
     let kept : made .point-bytes .result ≡ listOf (pointByte (a .column .kept)) 64 = made .point-bytes .ensures in
-    let l1 = fronted-first (numbers (a .protocol) (a .column)) _ _ _ 12 (made .before .before .before .before .before .before .before .numbers .ensures) refl (omega arith) (one .before .before .put .ensures .1) in
-    let l2 = fronted-more _ (a .column .bytes) _ _ _ _ 12 32 l1 refl whole (omega arith) (two .before .before .put2 .ensures .1) in
-    let l3 = fronted-more _ _ _ _ _ _ 44 31 l2 agreed (length-listOf _ 31) (omega arith) (three .before .before .put3 .ensures .1) in
-    let l4 = fronted-more _ _ _ _ _ _ 75 31 l3 reported (length-listOf _ 31) (omega arith) (four .before .before .put4 .ensures .1) in
-    let l5 = fronted-more _ _ _ _ _ _ 106 64 l4 kept (length-listOf _ 64) (omega arith) (c .before .before .put5 .ensures .1) in
-    fronted-all _ _ _ 170 l5 (omega arith)
+    let l1 = fronted-first (take (offset Bytes) (encode (a .column))) _ _ _ (offset Bytes) (made .before .before .before .before .before .before .before .numbers .ensures) refl (omega arith) (one .before .before .put .ensures .1) in
+    let l2 = fronted-more _ (a .column .bytes) _ _ _ _ (offset Bytes) (lengthOf Bytes) l1 refl whole (omega arith) (two .before .before .put2 .ensures .1) in
+    let l3 = fronted-more _ _ _ _ _ _ (offset Agreements) (lengthOf Agreements) l2 agreed (length-listOf _ 31) (omega arith) (three .before .before .put3 .ensures .1) in
+    let l4 = fronted-more _ _ _ _ _ _ (offset Reports) (lengthOf Reports) l3 reported (length-listOf _ 31) (omega arith) (four .before .before .put4 .ensures .1) in
+    let l5 = fronted-more _ _ _ _ _ _ (offset Kept) (lengthOf Kept) l4 kept (length-listOf _ 64) (omega arith) (c .before .before .put5 .ensures .1) in
+    fronted-all _ _ _ stateLength l5 (omega arith) ∙ simp (append-assoc, append-nil)
 
 pub all-spec : {M : Type 1} → statement M
 all-spec =

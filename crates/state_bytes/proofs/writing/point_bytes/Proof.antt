@@ -1,10 +1,10 @@
 -- `writing::point_bytes` meets its contract. A turn writes two bytes.
-use mathlib.Core.Path.{_≡_, _∙_}
+use mathlib.Core.Path.{_≡_, ap, _∙_}
 use Prim.Native.Nat.{_+_, _-_, _*_}
 use native.Mathlib.Omega.{arith}
 use Rattle.lists.specs.Loops.{Filled, filled-none, filled-more, filled-done}
 use Rattle.state_bytes.specs.Layout.{pointByte}
-use Rattle.state_bytes.specs.Inverse.{low-byte, high-byte}
+use Rattle.state_bytes.specs.Inverse.{half-byte}
 use Rattle.state_bytes.proofs.writing.point_bytes.Statement.{statement}
 use Rattle.state_bytes.proofs.writing.point_bytes.Tie as tie
 
@@ -54,11 +54,13 @@ loop-less : tie.Need-loop-less Inv-loop μ-loop
 loop-less c = omega arith
 
 loop-again : tie.Need-loop-again Inv-loop μ-loop
-loop-again c = let l = c .before .before .before .loop in
+loop-again c =
+    let l = c .before .before .before .loop in
     let e : 2 * (l .i + 1) ≡ 2 * l .i + 1 + 1 = omega arith in
+    let z : 2 * l .i + 0 ≡ 2 * l .i = omega arith in
     rw e
-    (filled-more _ _ _ _ _ _ (filled-more _ _ _ _ _ _ (l .inv) (omega arith) (c .before .half .ensures ∙ low-byte _ _)) (omega arith)
-    (c .half2 .ensures ∙ high-byte _ _))
+    (filled-more _ _ _ _ _ _ (filled-more _ _ _ _ _ _ (l .inv) (omega arith) (c .before .half .ensures ∙ half-byte _ _ 0 (omega arith) ∙ ap (pointByte _) z)) (omega arith)
+    (c .half2 .ensures ∙ half-byte _ _ 1 (omega arith)))
 
 returns : tie.Need-returns Inv-loop μ-loop
 returns c = filled-done _ _ _ _ _ (c .before .loop .inv) (omega arith) (omega arith)

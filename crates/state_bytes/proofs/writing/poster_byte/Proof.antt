@@ -1,23 +1,23 @@
 -- `writing::poster_byte` meets its contract.
-use mathlib.Core.Path.{refl}
-use Rattle.state_bytes.specs.Layout.{posterByte}
+use mathlib.Core.Path.{refl, sym, _∙_}
 use borrow.Author.Needs.{needs}
+use Rattle.state_bytes.specs.Layout.{posterByte}
 use Rattle.state_bytes.proofs.writing.poster_byte.Statement.{statement}
 use Rattle.state_bytes.proofs.writing.poster_byte.Tie as tie
 
-enum-told : tie.Need-enum-told
-enum-told c = search needs
+posts-requires : tie.Need-posts-requires
+posts-requires c κs = search needs
 
-enum-known-protocol : tie.Need-enum-known-protocol
-enum-known-protocol c = search needs
+beside-requires : tie.Need-beside-requires
+beside-requires c κs = search needs
 
 returns : tie.Need-returns
 unfolding posterByte
-returns c = rw (c .enum-told .given .1) refl
+returns c = rw (sym (c .before .before .posts .ensures) ∙ c .before .if1 .taken) (c .beside .ensures)
 
 returns-2 : tie.Need-returns-2
 unfolding posterByte
-returns-2 c = rw (c .before .protocol .given .1) refl
+returns-2 c = rw (sym (c .before .posts .ensures) ∙ c .if1 .left) refl
 
 pub poster-byte-spec : {M : Type 1} → statement M
-poster-byte-spec = tie.close (tie.spec enum-told enum-known-protocol returns returns-2)
+poster-byte-spec = tie.close (tie.spec posts-requires beside-requires returns returns-2)

@@ -9,15 +9,15 @@ use mathlib.Core.List.{List, _++_}
 use Rattle.lists.specs.Lists.{listOf}
 use Rattle.lists.specs.Entries.{getD-within}
 use Rattle.agreement.specs.Calls.{noColumn}
-use Rattle.wall_run.specs.declared.Entry.{Entry}
+use Rattle.agreement.specs.declared.Entry.{Entry}
 use Rattle.wall_run.proofs.entries.all.Statement.{statement}
 use Rattle.wall_run.proofs.entries.all.Tie as tie
 
 abbrev Inv-loop : tie.InvT-loop
-Inv-loop protocol sheet wall n entries₀ i₀ entries i = Filled (entryIn protocol sheet wall) n entries₀ entries i
+Inv-loop sheet wall n entries₀ i₀ entries i = Filled (entryIn sheet wall) n entries₀ entries i
 
 abbrev μ-loop : tie.MeasureT-loop
-μ-loop protocol sheet wall n entries₀ i₀ entries i = n - i
+μ-loop sheet wall n entries₀ i₀ entries i = n - i
 
 columns-requires : tie.Need-columns-requires Inv-loop μ-loop
 columns-requires c κs = tt
@@ -57,13 +57,13 @@ unfolding entryIn
 loop-again c =
     let a = c .before .before .before .before .before .before .before .args in
     let i = c .before .before .before .loop .i in
-    filled-more _ _ _ _ _ _ (c .before .before .before .loop .inv) (omega arith) (c .entry .ensures ∙ ap (entryOf (a .protocol) (a .sheet .now) (i + 1)) (getD-within (a .t3) i _ noColumn (omega (arith, c .before .before .before .before .before .columns .ensures, c .before .before .before .before .before .before .before .pre, c .before .before .before .before .before .before .before .good .1 .1 .0 .1 .0 .1))))
+    filled-more _ _ _ _ _ _ (c .before .before .before .loop .inv) (omega arith) (c .entry .ensures ∙ ap (entryOf (a .sheet .now) (i + 1)) (getD-within (a .t2) i _ noColumn (omega (arith, c .before .before .before .before .before .columns .ensures, c .before .before .before .before .before .before .before .pre, c .before .before .before .before .before .before .before .good .1 .0 .1 .0 .1))))
 
 returns : tie.Need-returns Inv-loop μ-loop
 unfolding inPlaces
 returns c =
     let a = c .before .before .before .before .before .args in
-    filled-part _ _ _ _ _ (c .before .loop .inv) (omega arith) ∙ ap₂ {C = List Entry} (λ n none. listOf (entryIn (a .protocol) (a .sheet .now) (a .t3)) n ++ drop n (replicate 31 none)) (c .before .before .before .columns .ensures) (c .before .before .mark-only .ensures)
+    filled-part _ _ _ _ _ (c .before .loop .inv) (omega arith) ∙ ap₂ {C = List Entry} (λ n none. listOf (entryIn (a .sheet .now) (a .t2)) n ++ drop n (replicate 31 none)) (c .before .before .before .columns .ensures) (c .before .before .mark-only .ensures)
 
 pub all-spec : {M : Type 1} → statement M
 all-spec =

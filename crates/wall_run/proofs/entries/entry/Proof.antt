@@ -1,7 +1,8 @@
 -- `entries::entry` meets its contract.
 use borrow.Author.Needs.{needs}
 use mathlib.Core.Path.{sym, _∙_, ap}
-use Rattle.wall_run.specs.Run.{entryOf, markOnly}
+use Rattle.agreement.specs.Entries.{markOnly}
+use Rattle.wall_run.specs.Run.{entryOf}
 use Rattle.wall_run.proofs.entries.entry.Statement.{statement}
 use Rattle.wall_run.proofs.entries.entry.Tie as tie
 

@@ -41,7 +41,7 @@ returns-2 c =
     let start = c .before .before .before .before .before .before .before .before .before .before .before .before in
     let a = start .args in
     let got = c .before .before .before .before .before .deliver .ensures .1 ∙ if-done _ _ _ (delivers _ _ _ _ (start .pre .0) (start .pre .1)) in
-    rw (sym (c .before .before .before .before .before .before .before .before .sound .ensures) ∙ not-false _ (c .before .before .before .before .before .before .before .if1 .left)) (ap (λ (r : Answered). r .column) (c .before .listen .ensures) ∙ ap (λ (l : List ℕ). listen (a .protocol) (a .column) l .column) got)
+    rw (sym (c .before .before .before .before .before .before .before .before .sound .ensures) ∙ not-false _ (c .before .before .before .before .before .before .before .if1 .left)) (ap (λ (r : Answered). r .column) (c .before .listen .ensures) ∙ ap (λ (l : List ℕ). listen (a .column) l .column) got)
 
 pub hear-spec : {M : Type 1} → statement M
 hear-spec =

@@ -13,10 +13,10 @@ use Rattle.wall_run.proofs.listening.listen_all.Statement.{statement}
 use Rattle.wall_run.proofs.listening.listen_all.Tie as tie
 
 abbrev Inv-loop : tie.InvT-loop
-Inv-loop protocol sheet round mail wall₀ n len inbox₀ i₀ wall inbox i = Filled (turned (heard protocol sheet round mail) wall₀) (columns sheet) wall₀ wall i × (length inbox ≡ 992)
+Inv-loop sheet round mail wall₀ n len inbox₀ i₀ wall inbox i = Filled (turned (heard sheet round mail) wall₀) (columns sheet) wall₀ wall i × (length inbox ≡ 992)
 
 abbrev μ-loop : tie.MeasureT-loop
-μ-loop protocol sheet round mail wall₀ n len inbox₀ i₀ wall inbox i = n - i
+μ-loop sheet round mail wall₀ n len inbox₀ i₀ wall inbox i = n - i
 
 columns-requires : tie.Need-columns-requires Inv-loop μ-loop
 columns-requires c κs = tt
@@ -25,7 +25,7 @@ of-one-requires : tie.Need-of-one-requires Inv-loop μ-loop
 of-one-requires c κs = tt
 
 loop-holds : tie.Need-loop-holds Inv-loop μ-loop
-loop-holds c = (filled-none _ _ _ (omega (arith, c .before .before .before .before .pre .0 .columns-high, c .before .before .before .before .good .1 .1 .1 .1 .0 .1 .0 .1)), length-replicate {A = ℕ} 992 65535)
+loop-holds c = (filled-none _ _ _ (omega (arith, c .before .before .before .before .pre .0 .columns-high, c .before .before .before .before .good .1 .1 .1 .0 .1 .0 .1)), length-replicate {A = ℕ} 992 65535)
 
 cast-at : tie.Need-cast-at Inv-loop μ-loop
 cast-at c = omega arith
@@ -67,7 +67,7 @@ loop-again c =
     let inside : i < columns (a .sheet .now) = omega (arith, c .before .before .before .before .before .before .before .columns .ensures) in
     let so-far = c .before .before .before .before .before .loop .inv .0 in
     let read = getD-within (c .before .before .before .before .before .loop .wall) i _ noColumn (omega (arith, so-far .same, so-far .size)) ∙ filled-read _ _ _ _ i noColumn so-far in
-    (filled-more _ _ _ _ _ _ so-far inside (c .before .hear .ensures ∙ ap (heard (a .protocol) (a .sheet .now) (a .round) (a .mail .now) (i + 1)) read), length-front (c .before .before .before .before .before .loop .inbox) (c .before .hear .last .1 .1 .1 .1 .1 .1 .0) (c .before .before .before .before .before .before .of-one .result) (c .before .hear .kept .1 .1 .1 .1 .1 .1 .0) ∙ c .before .before .before .before .before .loop .inv .1)
+    (filled-more _ _ _ _ _ _ so-far inside (c .before .hear .ensures ∙ ap (heard (a .sheet .now) (a .round) (a .mail .now) (i + 1)) read), length-front (c .before .before .before .before .before .loop .inbox) (c .before .hear .last .1 .1 .1 .1 .1 .0) (c .before .before .before .before .before .before .of-one .result) (c .before .hear .kept .1 .1 .1 .1 .1 .0) ∙ c .before .before .before .before .before .loop .inv .1)
 
 returns : tie.Need-returns Inv-loop μ-loop
 unfolding each

@@ -4,12 +4,12 @@ use Prim.Native.Nat.{ℕ, _+_, _-_, _*_, _≤_}
 use native.Mathlib.Omega.{arith}
 use lib.ListN.{length-replicate}
 use lib.Seq.{length-take-le, length-front}
-use Rattle.sizes.specs.Sizes.{roundsIn, valuesIn, lineIn}
-use Rattle.sizes.specs.Laws.{rounds-in-le, line-in-le}
 use Rattle.sheet.specs.Sheet.{columns}
 use Rattle.wall_run.specs.Rounds.{width-le, one-le, mail-le, Going, going-none, going-more, going-few, going-done}
 use Rattle.wall_run.proofs.rounds.ended.Statement.{statement}
 use Rattle.wall_run.proofs.rounds.ended.Tie as tie
+use Rattle.protocols.specs.Protocols.{roundsIn, valuesIn, lineIn}
+use Rattle.protocols.specs.Laws.{rounds-in-le, line-in-le}
 
 abbrev Inv-loop : tie.InvT-loop
 Inv-loop protocol sheet n m last line mail₀ wall₀ offset₀ q₀ mail wall offset q = Going protocol sheet last mail wall offset q
@@ -46,12 +46,6 @@ add-values-in c = omega (arith, c .before .loop .inv .few)
 
 values-in-requires : tie.Need-values-in-requires Inv-loop μ-loop
 values-in-requires c κs = tt
-
-cast-width : tie.Need-cast-width Inv-loop μ-loop
-cast-width c =
-    let pre = c .before .before .before .before .before .before .before .before .before .pre in
-    let wide : c .values-in .result ≤ 65 = rw (c .values-in .ensures) (width-le _ _ _ _ (omega (arith, c .before .before .before .before .before .before .bytes .ensures, pre .range .bytes-high))) in
-    omega arith
 
 of-many-requires : tie.Need-of-many-requires Inv-loop μ-loop
 of-many-requires c κs =
@@ -99,7 +93,7 @@ loop-less : tie.Need-loop-less Inv-loop μ-loop
 loop-less c = omega arith
 
 loop-again : tie.Need-loop-again Inv-loop μ-loop
-loop-again c = going-more (c .before .before .before .before .before .before .before .before .line-in .result) (c .before .before .before .before .values-in .result) (c .before .before .before .before .before .before .loop .inv) (omega arith) (length-front (c .before .before .before .before .before .before .loop .mail) (c .before .played .last .1 .1 .1 .1 .0) (c .before .before .before .of-many .result) (c .before .played .kept .1 .1 .1 .1 .0)) (c .before .before .before .before .before .before .before .before .line-in .ensures ∙ ap₂ {C = ℕ} (λ n m. lineIn (c .before .before .before .before .before .before .before .before .before .before .before .before .before .args .protocol) n m) (c .before .before .before .before .before .before .before .before .before .before .before .columns .ensures) (c .before .before .before .before .before .before .before .before .before .before .bytes .ensures)) (c .before .before .before .before .values-in .ensures ∙ ap₂ {C = ℕ} (λ n m. valuesIn (c .before .before .before .before .before .before .before .before .before .before .before .before .before .args .protocol) n m (c .before .before .before .before .before .before .loop .q + 1)) (c .before .before .before .before .before .before .before .before .before .before .before .columns .ensures) (c .before .before .before .before .before .before .before .before .before .before .bytes .ensures)) (c .before .played .ensures)
+loop-again c = going-more (c .before .before .before .before .before .before .before .before .line-in .result) (c .before .before .before .before .values-in .result) (c .before .before .before .before .before .before .loop .inv) (omega arith) (length-front (c .before .before .before .before .before .before .loop .mail) (c .before .played .last .1 .1 .1 .0) (c .before .before .before .of-many .result) (c .before .played .kept .1 .1 .1 .0)) (c .before .before .before .before .before .before .before .before .line-in .ensures ∙ ap₂ {C = ℕ} (λ n m. lineIn (c .before .before .before .before .before .before .before .before .before .before .before .before .before .args .protocol) n m) (c .before .before .before .before .before .before .before .before .before .before .before .columns .ensures) (c .before .before .before .before .before .before .before .before .before .before .bytes .ensures)) (c .before .before .before .before .values-in .ensures ∙ ap₂ {C = ℕ} (λ n m. valuesIn (c .before .before .before .before .before .before .before .before .before .before .before .before .before .args .protocol) n m (c .before .before .before .before .before .before .loop .q + 1)) (c .before .before .before .before .before .before .before .before .before .before .before .columns .ensures) (c .before .before .before .before .before .before .before .before .before .before .bytes .ensures)) (c .before .played .ensures)
 
 returns : tie.Need-returns Inv-loop μ-loop
 returns c = going-done (c .before .loop .inv) (omega arith) (c .before .before .before .before .rounds-in .ensures ∙ ap (roundsIn (c .before .before .before .before .before .before .before .before .args .protocol)) (c .before .before .before .before .before .before .columns .ensures))
@@ -120,7 +114,6 @@ ended-spec =
     loop-holds
     add-values-in
     values-in-requires
-    cast-width
     of-many-requires
     array-borrow-prefix-mail
     slice-aggregate-played

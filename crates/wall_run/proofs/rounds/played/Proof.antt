@@ -31,7 +31,7 @@ returns : tie.Need-returns
 unfolding played
 returns c =
     let a = c .before .before .before .before .before .before .before .before .before .before .before .before .args in
-    c .listen-all .ensures ∙ ap₂ {C = List Column} (λ mail wall. each (columns (a .sheet .now)) (heard (a .protocol) (a .sheet .now) (a .round) mail) wall) (c .before .before .before .before .speak-all .ensures .1) (c .before .before .before .before .speak-all .ensures .0)
+    c .listen-all .ensures ∙ ap₂ {C = List Column} (λ mail wall. each (columns (a .sheet .now)) (heard (a .sheet .now) (a .round) mail) wall) (c .before .before .before .before .speak-all .ensures .1) (c .before .before .before .before .speak-all .ensures .0)
 
 pub played-spec : {M : Type 1} → statement M
 played-spec =

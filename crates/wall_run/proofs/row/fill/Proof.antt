@@ -52,11 +52,11 @@ use denote.Exit.{yes}
 use Rattle.lists.specs.Lists.{listOf}
 use Rattle.lists.specs.Loops.{Filled, filled-none, filled-more, filled-part}
 use Rattle.wall_run.specs.Row.{entryAt}
-use Rattle.wall_run.specs.declared.Entry.{Entry}
+use Rattle.agreement.specs.declared.Entry.{Entry}
 use Rattle.wall_run.specs.declared.Outcomes.{Outcomes}
 use Rattle.wall_run.proofs.Walk.{by-number, var, field-of, sets}
-use Rattle.wall_run.proofs.Entry as T
-use Rattle.wall_run.proofs.Entry.Laws as T′
+use Rattle.agreement.proofs.Entry as T
+use Rattle.agreement.proofs.Entry.Laws as T′
 use Rattle.wall_run.proofs.Outcomes as O
 use Rattle.wall_run.proofs.Outcomes.Laws as O′
 use Rattle.wall_run.proofs.row.entry_of as entry-of

@@ -49,7 +49,7 @@ returns-2 c =
     let len = c .before .before .before .before .before .of-one .ensures in
     let blank = c .before .before .before .before .before .before .before .before .before .before .pre .2 in
     let is-sound = sym (c .before .before .before .before .before .before .before .sound .ensures) ∙ not-false _ (c .before .before .before .before .before .before .if1 .left) in
-    (rw is-sound (ap (λ (r : Answered). r .column) (c .before .before .before .speak .ensures .0) ∙ ap (λ (l : List ℕ). speak (a .protocol) (a .column) l .column) (ap (λ (k : ℕ). take k (a .part .now)) len ∙ blank)), rw is-sound (all-said (a .protocol) (a .column) (columns (a .sheet .now)) (a .width) (c .before .before .before .before .before .of-one .result) (a .part .now) (c .before .before .before .speak .last .1 .1 .0) len blank (c .before .before .before .speak .ensures .1)))
+    (rw is-sound (ap (λ (r : Answered). r .column) (c .before .before .before .speak .ensures .0) ∙ ap (λ (l : List ℕ). speak (a .column) l .column) (ap (λ (k : ℕ). take k (a .part .now)) len ∙ blank)), rw is-sound (all-said (a .column) (columns (a .sheet .now)) (a .width) (c .before .before .before .before .before .of-one .result) (a .part .now) (c .before .before .before .speak .last .1 .0) len blank (c .before .before .before .speak .ensures .1)))
 
 pub say-spec : {M : Type 1} → statement M
 say-spec =

@@ -18,10 +18,10 @@ use Rattle.wall_run.proofs.speaking.speak_all.Statement.{statement}
 use Rattle.wall_run.proofs.speaking.speak_all.Tie as tie
 
 abbrev Inv-loop : tie.InvT-loop
-Inv-loop protocol sheet width mail₀ wall₀ n j₀ mail wall j = Filled (turned (spoken protocol sheet width) wall₀) (columns sheet) wall₀ wall j × Rowed (wordsOf protocol sheet width wall₀) (columns sheet * width) (columns sheet) mail₀ mail j
+Inv-loop sheet width mail₀ wall₀ n j₀ mail wall j = Filled (turned (spoken sheet width) wall₀) (columns sheet) wall₀ wall j × Rowed (wordsOf sheet width wall₀) (columns sheet * width) (columns sheet) mail₀ mail j
 
 abbrev μ-loop : tie.MeasureT-loop
-μ-loop protocol sheet width mail₀ wall₀ n j₀ mail wall j = n - j
+μ-loop sheet width mail₀ wall₀ n j₀ mail wall j = n - j
 
 columns-requires : tie.Need-columns-requires Inv-loop μ-loop
 columns-requires c κs = tt
@@ -29,7 +29,7 @@ columns-requires c κs = tt
 loop-holds : tie.Need-loop-holds Inv-loop μ-loop
 loop-holds c =
     let s = c .before .before .before .pre in
-    (filled-none _ _ _ (omega (arith, s .few, c .before .before .before .good .1 .1 .1 .0 .1 .0 .1)), rowed-none _ _ _ _ (sym (ap length (s .blank-all) ∙ length-replicate _ blank)))
+    (filled-none _ _ _ (omega (arith, s .few, c .before .before .before .good .1 .1 .0 .1 .0 .1)), rowed-none _ _ _ _ (sym (ap length (s .blank-all) ∙ length-replicate _ blank)))
 
 cast-i : tie.Need-cast-i Inv-loop μ-loop
 cast-i c = omega arith
@@ -84,7 +84,7 @@ loop-again c =
     let read = getD-within (c .before .before .before .before .before .before .before .loop .wall) j _ noColumn (omega (arith, so-far .same, so-far .size)) ∙ filled-read _ _ _ _ j noColumn so-far in
     let w = columns (a .sheet .now) * a .width in
     let part = take (length (c .before .before .before .before .before .before .before .loop .mail) - c .before .before .before .before .of-many .result) (drop (c .before .before .before .before .of-many .result) (c .before .before .before .before .before .before .before .loop .mail)) in
-    (filled-more _ _ _ _ _ _ so-far inside (c .before .before .say .ensures .0 ∙ ap (spoken (a .protocol) (a .sheet .now) (a .width) (j + 1)) read), rowed-more _ _ _ _ _ _ _ _ (c .before .before .before .before .before .before .before .loop .inv .1) inside (c .before .before .before .before .of-many .ensures) (c .before .before .say .ensures .1 ∙ ap (λ (x : Column). listOf (said (words (a .protocol) (a .sheet .now) (a .width) (j + 1) x)) w ++ drop w part) (read ∙ ap (λ (k : ℕ). getD (a .t4) k noColumn) {x = j} {y = j + 1 - 1} (omega arith))))
+    (filled-more _ _ _ _ _ _ so-far inside (c .before .before .say .ensures .0 ∙ ap (spoken (a .sheet .now) (a .width) (j + 1)) read), rowed-more _ _ _ _ _ _ _ _ (c .before .before .before .before .before .before .before .loop .inv .1) inside (c .before .before .before .before .of-many .ensures) (c .before .before .say .ensures .1 ∙ ap (λ (x : Column). listOf (said (words (a .sheet .now) (a .width) (j + 1) x)) w ++ drop w part) (read ∙ ap (λ (k : ℕ). getD (a .t3) k noColumn) {x = j} {y = j + 1 - 1} (omega arith))))
 
 same-length : tie.Need-same-length Inv-loop μ-loop
 same-length c = c .before .loop .inv .1 .same

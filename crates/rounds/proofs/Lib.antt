@@ -1,2 +1,0 @@
--- OneValue: the kinds that a `match` leaves to its last arm.
-pub mod OneValue

@@ -6,7 +6,7 @@ use Prim.Native.Nat.{ℕ}
 use lib.Dec.{eqb}
 use lib.ListN.{length, take, drop}
 use Rattle.protocols.specs.declared.Protocol.{Protocol}
-use Rattle.protocols.specs.declared.Protocol.the-variants.{Agreement, Posting}
+use Rattle.protocols.specs.Protocols.{beside, numberOf, protocolOf}
 use Rattle.machine.specs.Machine.{Call, Speaks, Listens, Asks, Machine}
 use Rattle.agreement.specs.Entries.{endedOn}
 use Rattle.state_bytes.specs.Layout.{Grade, number}
@@ -70,8 +70,7 @@ entryAfter state (asks x row) = outcomeOut (lent x state) row
 
 -- a poster's number from 256 on counts as 255
 unfoldable pub narrowed : Protocol → Protocol
-narrowed Agreement = Agreement
-narrowed (Posting s) = Posting (narrow s)
+narrowed p = protocolOf (numberOf p) (narrow (beside p))
 
 -- column i is made in the slice `slot i`
 abbrev pub machine : Protocol → (ℕ → List ℕ) → Machine (List ℕ) BytesCall

@@ -14,6 +14,7 @@ use Rattle.protocols.specs.declared.Protocol.{Protocol}
 use Rattle.protocols.specs.declared.Protocol.the-variants.{Agreement, Posting}
 use Rattle.sizes.specs.Laws.{accepted as sizes-inside}
 use Rattle.protocols.specs.Protocols.{roundsIn, beside}
+use Rattle.protocols.specs.Laws.{number-read}
 use Rattle.messages.specs.Messages.{refusal, unlessRefused}
 use Rattle.messages.specs.Laws.{refused-before, not-refused, if-done}
 use Rattle.machine.specs.Machine.{Call, Speaks, Listens, Asks}
@@ -162,9 +163,8 @@ unfolding narrow
 narrow-small v h = simp (lt-ltb v 256 h)
 
 narrowed-small : (p : Protocol) → beside p < 256 → narrowed p ≡ p
-unfolding narrowed beside
-narrowed-small Agreement h = refl
-narrowed-small (Posting s) h = ap {B = Protocol} Posting (narrow-small s h)
+unfolding narrowed
+narrowed-small p h = number-read p (narrow (beside p)) (λ e. narrow-small (beside p) h)
 
 accepted : (p : Protocol) (n m own : ℕ) (bytes : List ℕ) → Makes p n m own bytes → refusalOf (C.fresh p n m own bytes .answer) ≡ 0
 unfolding C.fresh answered

@@ -1,4 +1,4 @@
--- No accepted sheet, of an agreement or of a posting, is longer than 42,565 bytes, and so the first 42,566 bytes of an input, or more of them, have
+-- No accepted sheet, of any protocol, is longer than 42,565 bytes, and so the first 42,566 bytes of an input, or more of them, have
 -- the listing of the whole.
 use mathlib.Core.Path.{_≡_, refl, ap}
 use mathlib.Core.Bool.{Bool, true, false}
@@ -15,11 +15,10 @@ use Rattle.lists.specs.Lists.{all}
 use Rattle.lists.specs.Entries.{all-same}
 use Rattle.lists.specs.Count.{count-same}
 use Rattle.protocols.specs.declared.Protocol.{Protocol}
-use Rattle.protocols.specs.declared.Protocol.the-variants.{Agreement, Posting}
 use Rattle.sizes.specs.Sizes.{faults, degree, blocks, refusal as refusalOfSizes}
 use Rattle.sizes.specs.Laws.{InRange, Sized, sized, accepted as accepted-sizes}
 use Rattle.protocols.specs.Protocols.{lineIn, beside}
-use Rattle.protocols.specs.Laws.{line-agreement, line-posting}
+use Rattle.protocols.specs.Laws.{line-le}
 use Rattle.sheet.specs.Sheet.{columns, bytes, mark, unsound, unsoundTo, arrays, whole, markFits, inOrder, refusalOfMarks, refusal as refusalOfSheet}
 use Rattle.wall_run.specs.Run.{refusal}
 use Rattle.wall_run.specs.Row.{accepted-run, run-refused}
@@ -34,31 +33,27 @@ bounded line n m u N T L r few hn ht hl =
     let un : u * n ≤ T * N = mul-le-mul (omega arith) hn in
     omega (arith, mul-le-mul {n₁ = n} {m₁ = m} {n₂ = N} {m₂ = 32} hn (r .bytes-high), mul-le-mul un hl)
 
--- the values of a line, of at most T unsound columns and B blocks
-line-le : (p : Protocol) (n m T B rest : ℕ) → InRange n m → faults n ≤ T → blocks n m ≤ B → 3 * T + 5 ≤ rest → 34 ≤ rest → lineIn p n m ≤ 4 * B + rest
-line-le Agreement n m T B rest r ht hb a b = omega (arith, line-agreement n m)
-line-le (Posting s) n m T B rest r ht hb a b = omega (arith, line-posting n m s, r .bytes-high)
-
 -- by the degree of a block: with more columns there are fewer blocks
 whole-le : (p : Protocol) (n m u : ℕ) → InRange n m → u ≤ faults n → whole (lineIn p n m) n m u ≤ 42565
 whole-le p n m u r few = go (degree n) (sized n m r) refl
   where
-    by : (N T B rest : ℕ) → n ≤ N → faults n ≤ T → blocks n m ≤ B → 3 * T + 5 ≤ rest → 34 ≤ rest
-        → whole (lineIn p n m) n m u ≤ 2 + N + N * 32 + 2 * (T * N * (4 * B + rest))
-    by N T B rest hn ht hb a b = bounded (lineIn p n m) n m u N T (4 * B + rest) r few hn ht (line-le p n m T B rest r ht hb a b)
+    -- of at most N columns, T of them unsound, and B blocks
+    by : (N T B : ℕ) → n ≤ N → faults n ≤ T → blocks n m ≤ B → whole (lineIn p n m) n m u ≤ 2 + N + N * 32 + 2 * (T * N * (4 * B + 35))
+    by N T B hn ht hb =
+        bounded (lineIn p n m) n m u N T (4 * B + 35) r few hn ht (omega (arith, line-le p n m 35 (omega (arith, sized n m r .faults-high)) (omega (arith, r .bytes-high))))
 
     go : (d : ℕ) → Sized n m → degree n ≡ d → whole (lineIn p n m) n m u ≤ 42565
     go zero z e =
         let t : faults n ≤ 2 = omega (arith, z .degree-most) in
-        omega (arith, by 9 2 32 34 (omega (arith, z .faults-most)) t (omega (arith, z .blocks-high, r .bytes-high)) (omega arith) (omega arith))
+        omega (arith, by 9 2 32 (omega (arith, z .faults-most)) t (omega (arith, z .blocks-high, r .bytes-high)))
     go (suc zero) z e =
         let t : faults n ≤ 5 = omega (arith, z .degree-most) in
-        omega (arith, by 18 5 16 34 (omega (arith, z .faults-most)) t (omega (arith, rw e at (z .blocks-least), r .bytes-high)) (omega arith) (omega arith))
+        omega (arith, by 18 5 16 (omega (arith, z .faults-most)) t (omega (arith, rw e at (z .blocks-least), r .bytes-high)))
     go (suc (suc zero)) z e =
         let t : faults n ≤ 8 = omega (arith, z .degree-most) in
-        omega (arith, by 27 8 11 34 (omega (arith, z .faults-most)) t (omega (arith, rw e at (z .blocks-least), r .bytes-high)) (omega arith) (omega arith))
+        omega (arith, by 27 8 11 (omega (arith, z .faults-most)) t (omega (arith, rw e at (z .blocks-least), r .bytes-high)))
     go (suc (suc (suc zero))) z e =
-        omega (arith, by 31 10 8 35 (r .columns-high) (z .faults-high) (omega (arith, rw e at (z .blocks-least), r .bytes-high)) (omega arith) (omega arith))
+        omega (arith, by 31 10 8 (r .columns-high) (z .faults-high) (omega (arith, rw e at (z .blocks-least), r .bytes-high)))
     go (suc (suc (suc (suc d)))) z e = absurd (omega (arith, z .degree-high))
 
 -- a sheet that nothing refuses is no longer

@@ -215,9 +215,13 @@ module _ (n m : ℕ) where
   unfolding kinds width total
   line-posting s = line-total (Posting s) ∙ omega arith
 
+-- beside the codewords of two rounds and the points of two, no line has more than 3t + 5 or m + 3 values
+pub line-le : (p : Protocol) (n m rest : ℕ) → 3 * faults n + 5 ≤ rest → m + 3 ≤ rest → lineIn p n m ≤ 4 * blocks n m + rest
+line-le Agreement n m rest a b = omega (arith, line-agreement n m)
+line-le (Posting s) n m rest a b = omega (arith, line-posting n m s)
+
 pub line-in-le : (p : Protocol) (n m : ℕ) → lineIn p n m ≤ 5 * m + 3 * n + 5
-line-in-le Agreement n m = omega (arith, line-agreement n m, blocks-le n m, faults-le n)
-line-in-le (Posting s) n m = omega (arith, line-posting n m s, blocks-le n m)
+line-in-le p n m = omega (arith, line-le p n m (m + 3 * n + 5) (omega (arith, faults-le n)) (omega arith), blocks-le n m)
 
 -- A PROTOCOL BY ITS NUMBER: what is told is read back, and what is read was told
 pub number-few : (p : Protocol) → ltb (numberOf p) protocolCount ≡ true

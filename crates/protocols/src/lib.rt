@@ -153,40 +153,53 @@ pub fn line_in(protocol: Protocol, n: u8, m: u8) -> usize
     }
 }
 
-// The column number that stands beside the sizes of a run: the poster's; without one column 1, which is never refused.
-pub fn beside(protocol: Protocol) -> u8
-    ensures { λ r. ⌜ r ≡ besideOf protocol ⌝ }
-{
-    match protocol {
-        Protocol::Agreement => 1,
-        Protocol::Posting(s) => s,
-    }
-}
-
-// Whether one column posts its record to all others.
-pub fn posts(protocol: Protocol) -> bool
-    ensures { λ r. ⌜ r ≡ postsOf protocol ⌝ }
-{
-    match protocol {
-        Protocol::Agreement => false,
-        Protocol::Posting(_) => true,
-    }
-}
-
 // How many protocols there are.
 pub const PROTOCOLS: usize = 2;
 
-// The number of each, as a state's bytes have it.
-pub fn number_of(protocol: Protocol) -> u8
-    ensures { λ r. ⌜ r ≡ numberOf protocol ⌝ }
+// What a protocol is beside its rounds: its number, as a state's bytes have it; whether one column posts its record to all others; and the
+// column number that stands beside the sizes, the poster's or, without one, column 1, which is never refused.
+struct Label {
+    number: u8,
+    posts: bool,
+    beside: u8,
+}
+
+fn named(protocol: Protocol) -> Label
+    ensures { λ r. ⌜ (r .number ≡ numberOf protocol) × (r .posts ≡ postsOf protocol) × (r .beside ≡ besideOf protocol) ⌝ }
 {
     match protocol {
-        Protocol::Agreement => 0,
-        Protocol::Posting(_) => 1,
+        Protocol::Agreement => Label {
+            number: 0,
+            posts: false,
+            beside: 1,
+        },
+        Protocol::Posting(s) => Label {
+            number: 1,
+            posts: true,
+            beside: s,
+        },
     }
 }
 
-// And back from it, with the poster's number beside it.
+pub fn number_of(protocol: Protocol) -> u8
+    ensures { λ r. ⌜ r ≡ numberOf protocol ⌝ }
+{
+    named(protocol).number
+}
+
+pub fn posts(protocol: Protocol) -> bool
+    ensures { λ r. ⌜ r ≡ postsOf protocol ⌝ }
+{
+    named(protocol).posts
+}
+
+pub fn beside(protocol: Protocol) -> u8
+    ensures { λ r. ⌜ r ≡ besideOf protocol ⌝ }
+{
+    named(protocol).beside
+}
+
+// The protocol of this number, with the poster's number where one posts.
 pub fn protocol_of(runs: u8, poster: u8) -> Protocol
     ensures { λ r. ⌜ r ≡ protocolOf runs poster ⌝ }
 {

@@ -15,7 +15,6 @@ use Rattle.king.specs.King.{phases}
 use Rattle.agreement.specs.declared.Stage.the-variants.{Speak}
 use Rattle.agreement.specs.declared.Column.{Column}
 use Rattle.agreement.specs.Column.{brought, freshColumn}
-use Rattle.agreement.specs.Parts.{withStage}
 use Rattle.agreement.specs.Rounds.{voteIn, votesOne}
 use Rattle.agreement.specs.Heard.{regrades, kept-bytes, kept-grade}
 use Rattle.agreement.specs.Kinds.{past-three, keeps-on, rounds-of, kind-points, kind-kept}
@@ -46,7 +45,7 @@ module _ (n m own : ℕ) (bytes : List ℕ) (inbox : ℕ → List ℕ) where
   at q = course Agreement n m own bytes inbox q
 
   pub record-lasts : (q : ℕ) → q < roundsIn Agreement n → at q .bytes ≡ part bytes 0 32
-  unfolding course freshColumn brought withStage posts beside
+  unfolding course freshColumn brought posts beside
   record-lasts zero l = refl
   record-lasts (suc q) l =
       kept-bytes (kindIn Agreement n (suc q)) (Speak (suc q + 1)) (listening Agreement n m own bytes inbox q) (inbox (suc q)) (keeps-on n (suc q) (omega (arith, rounds-of n)) .1)
@@ -54,7 +53,7 @@ module _ (n m own : ℕ) (bytes : List ℕ) (inbox : ℕ → List ℕ) where
 
   -- the grade with which it leaves dispersal is its grade ever after
   pub grade-lasts : (q : ℕ) → 3 ≤ q → at q .grade ≡ at 3 .grade
-  unfolding course withStage regrades
+  unfolding course regrades
   grade-lasts zero h = absurd (omega arith)
   grade-lasts (suc q) h =
       ⊎-elim (λ (e : 3 ≡ suc q). ap (λ (r : ℕ). at r .grade) (sym e))

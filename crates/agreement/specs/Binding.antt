@@ -26,7 +26,6 @@ use Rattle.protocols.specs.declared.Kind.the-variants.{Post}
 use Rattle.protocols.specs.Protocols.{width, kinds, roundsIn, kindIn, beside, posts}
 use Rattle.protocols.specs.Laws.{rounds-posting}
 use Rattle.agreement.specs.Column.{freshVote, brought, freshColumn, fits}
-use Rattle.agreement.specs.Parts.{withStage, withBytes, withAgreements, withReports, withGrade, withVote, withKept}
 use Rattle.agreement.specs.Post.{postedBy, takenRecord, posted}
 use Rattle.agreement.specs.Rounds.{voteIn, voteAfter, votesOne, message, outcomeOf, endsOn, hears}
 use Rattle.agreement.specs.Calls.{inState, whenAsked, outcomeRefusal, ending, replyOf, outcome, gradeIn, gradeShown}
@@ -61,7 +60,7 @@ outGrade g o = cond (eqb g 2) 2 (ifRecord o)
 
 -- it is what a column that ended answers
 pub ended-grade : (s : ℕ) (c : Column) (o : Option (List ℕ)) → c .protocol ≡ Posting s → T (fits (endsOn o c)) → outcome (endsOn o c) .grade ≡ outGrade (c .grade) o
-unfolding outcome replyOf outcomeRefusal inState whenAsked ending gradeShown gradeIn outGrade ifRecord endsOn withStage withBytes posts
+unfolding outcome replyOf outcomeRefusal inState whenAsked ending gradeShown gradeIn outGrade ifRecord endsOn posts
 ended-grade s c none e h =
     ap (λ (p : Protocol). gradeShown p (c .grade) (replyOf (endsOn none c))) e ∙ rw (is-true (fits (endsOn none c)) h) refl
 ended-grade s c (some r) e h =
@@ -90,12 +89,12 @@ graded-as g o = go (ifRecord o) (one-at-most o) (eqb g 2) refl
 
 -- the vote is 1 from first to last
 ended-vote : (o : Option (List ℕ)) (c : Column) → endsOn o c .vote ≡ c .vote
-unfolding endsOn withStage withBytes
+unfolding endsOn
 ended-vote none c = refl
 ended-vote (some r) c = refl
 
 pub vote-lasts : (s n m own : ℕ) (bytes : List ℕ) (inbox : ℕ → List ℕ) → course (Posting s) n m own bytes inbox (roundsIn (Posting s) n) .vote ≡ 1
-unfolding course kindIn kinds freshColumn freshVote voteAfter hears withStage withBytes withAgreements withReports withGrade withVote withKept posts
+unfolding course kindIn kinds freshColumn freshVote voteAfter hears posts
 vote-lasts s n m own bytes inbox =
     ap (λ (q : ℕ). course (Posting s) n m own bytes inbox q .vote) (rounds-posting s n)
     ∙ ended-vote (outcomeOf (listening (Posting s) n m own bytes inbox 5) (inbox 6)) (listening (Posting s) n m own bytes inbox 5)
@@ -116,12 +115,12 @@ module _ {s n m : ℕ} {H : ℕ → Bool} {held : ℕ → List ℕ} {inbox : ℕ
   took-first i = refl
 
   pub took-last : (i : ℕ) → state i 4 .bytes ≡ took i
-  unfolding took course kindIn kinds hears withStage withAgreements withReports withGrade withVote
+  unfolding took course kindIn kinds hears
   took-last i = refl
 
   -- the poster its own; every other column what it heard of the poster
   took-is : (i : ℕ) → took i ≡ cond (eqb i s) (part (held i) 0 32) (takenRecord m (λ k. inRow m (inbox i 1) s k blank))
-  unfolding took course freshColumn brought kindIn kinds hears withStage withBytes posted postedBy posts beside
+  unfolding took course freshColumn brought kindIn kinds hears posted postedBy posts beside
   took-is i = go (eqb i s) refl
     where
       go : (b : Bool) → eqb i s ≡ b
@@ -171,7 +170,7 @@ module _ {s n m : ℕ} {H : ℕ → Bool} {held : ℕ → List ℕ} {inbox : ℕ
 
   -- the grade lasts
   pub grade-stays : (i : ℕ) → state i 5 .grade ≡ g i
-  unfolding course kindIn kinds hears withStage withKept
+  unfolding course kindIn kinds hears
   grade-stays i = refl
 
   -- a sound grade 2: all end on its record

@@ -29,7 +29,7 @@ module _ (p : Protocol) (n m own : ℕ) (bytes : List ℕ) (inbox : ℕ → List
 
   -- it is the column that it was
   pub course-is : (q : ℕ) → Is p n m own (course q)
-  unfolding course freshColumn withStage
+  unfolding course freshColumn
   course-is zero = record { protocol-is = refl; n-is = refl; m-is = refl; own-is = refl }
   course-is (suc q) = hears-is (kindIn p n (suc q)) (Speak (suc q + 1)) (listening q) (inbox (suc q)) (course-is q)
 
@@ -52,7 +52,7 @@ module _ (p : Protocol) (n m own : ℕ) (bytes : List ℕ) (inbox : ℕ → List
     listening-fits q l h = with-stage (course q) h (Listen (suc q)) (in-run q (suc q) (omega arith) l)
 
     pub course-fits : (q : ℕ) → q ≤ roundsIn p n → T (fits (course q))
-    unfolding course withStage
+    unfolding course
     course-fits zero l = fresh-fits p n m own bytes accepted poster full
     course-fits (suc q) l =
         hears-fits (kindIn p n (suc q)) (Speak (suc q + 1)) (listening q) (inbox (suc q)) (λ e. in-run q (suc q + 1) (omega arith) (omega (arith, before-last p n (suc q) l e)))

@@ -17,7 +17,6 @@ use Rattle.dispersal.specs.Calls.{agreementsOf, firstOf, reportsOf, secondOf, l
 use Rattle.agreement.specs.declared.Column.{Column}
 use Rattle.protocols.specs.declared.Kind.the-variants.{Exchange, FirstReport, SecondReport}
 use Rattle.protocols.specs.Protocols.{width, roundsIn, kindIn}
-use Rattle.agreement.specs.Parts.{withStage, withAgreements, withReports, withGrade, withVote}
 use Rattle.agreement.specs.Rounds.{message, received, graded, hears}
 use Rattle.agreement.specs.Courses.{Courses, state, is, next, sent, of}
 
@@ -46,17 +45,17 @@ module _ {p : Protocol} {n m : ℕ} {H : ℕ → Bool} {held : ℕ → List ℕ}
   reported = reportsOf n m places (of C q₁) (of C q₂) (of C q₃)
 
   agreements₁ : (i : ℕ) → state C i q₁ .agreements ≡ agreed i
-  unfolding q₁ hears withStage withAgreements
+  unfolding q₁ hears
   agreements₁ i =
       let a = is C i q in
       ap (λ (c : Column). c .agreements) (next C i q Exchange (D .kind₁)) ∙ rw (a .n-is, a .m-is, a .own-is, holding i)
 
   agreements₂ : (i : ℕ) → state C i q₂ .agreements ≡ agreed i
-  unfolding q₁ q₂ hears withStage withReports
+  unfolding q₁ q₂ hears
   agreements₂ i = ap (λ (c : Column). c .agreements) (next C i q₁ FirstReport (D .kind₂)) ∙ agreements₁ i
 
   reports₂ : (i : ℕ) → state C i q₂ .reports ≡ reported i
-  unfolding q₁ q₂ hears withStage withReports received message
+  unfolding q₁ q₂ hears received message
   reports₂ i =
       let a = is C i q₁ in
       let c = state C i q₁ in
@@ -66,7 +65,7 @@ module _ {p : Protocol} {n m : ℕ} {H : ℕ → Bool} {held : ℕ → List ℕ}
 
   -- the grade with which a column leaves is the one that Protocol 3.2 gives
   grade₃ : (i : ℕ) → state C i q₃ .grade ≡ leavesWith n m places (of C q₁) (of C q₂) (of C q₃) i
-  unfolding q₂ q₃ hears withStage withGrade withVote graded received message
+  unfolding q₂ q₃ hears graded received message
   grade₃ i =
       let a = is C i q₂ in
       ap (λ (c : Column). c .grade) (next C i q₂ SecondReport (D .kind₃)) ∙ rw (a .n-is, a .own-is, agreements₂ i, reports₂ i)

@@ -23,7 +23,6 @@ use Rattle.dissemination.specs.Calls.{keptOf, calls-consistent}
 use Rattle.agreement.specs.declared.Column.{Column}
 use Rattle.protocols.specs.declared.Kind.the-variants.{Points, KeptPoints}
 use Rattle.protocols.specs.Protocols.{width, roundsIn, kindIn}
-use Rattle.agreement.specs.Parts.{withStage, withKept}
 use Rattle.agreement.specs.Rounds.{votesOne, spreads, message, outcomeOf, endsOn, hears}
 use Rattle.agreement.specs.Course.{listening}
 use Rattle.agreement.specs.Courses.{Courses, state, is, next, sent, of}
@@ -44,14 +43,14 @@ module _ {p : Protocol} {n m : ℕ} {H : ℕ → Bool} {held : ℕ → List ℕ}
   keptBy = keptOf n m has places (of C (suc q)) (of C (suc (suc q)))
 
   kept-is : (i : ℕ) → state C i (suc q) .kept ≡ keptBy i
-  unfolding hears withStage withKept spreads votesOne
+  unfolding hears spreads votesOne
   kept-is i =
       let a = is C i q in
       ap (λ (c : Column). c .kept) (next C i q Points (D .kind₁)) ∙ rw (a .n-is, a .m-is, a .own-is, holding i)
 
   -- the vote stays as it is
   vote-stays : (i : ℕ) → votesOne (state C i (suc q)) ≡ votesOne (state C i q)
-  unfolding hears votesOne withStage withKept
+  unfolding hears votesOne
   vote-stays i = ap votesOne (next C i q Points (D .kind₁))
 
   points-sent : Delivered n H (blocks n m) (λ j. pointsToAll n m (has j) (places j)) (of C (suc q))
@@ -83,7 +82,7 @@ module _ {p : Protocol} {n m : ℕ} {H : ℕ → Bool} {held : ℕ → List ℕ}
 
   -- with vote 0 on none
   pub decides-none : (i : ℕ) → votesOne (state C i q) ≡ false → decides i ≡ none
-  unfolding decides outcomeOf withStage votesOne
+  unfolding decides outcomeOf votesOne
   decides-none i e = rw (vote-stays i, e)
 
   module _ (ones : (i : ℕ) → Sound n H i → votesOne (state C i q) ≡ true) where
@@ -91,7 +90,7 @@ module _ {p : Protocol} {n m : ℕ} {H : ℕ → Bool} {held : ℕ → List ℕ}
     -- column has another one
     decides-record : (r : List ℕ) → Held m r → suc (faults n) ≤ count (inputs H has places r) n
         → ((j : ℕ) → Sound n H j → T (has j) → places j ≡ r) → (i : ℕ) → Sound n H i → decides i ≡ some r
-    unfolding decides outcomeOf withStage votesOne message
+    unfolding decides outcomeOf votesOne message
     decides-record r whole many only i si =
         let a = is C i (suc q) in
         rw (vote-stays i, ones i si, a .n-is, a .m-is, a .own-is, kept-is i)

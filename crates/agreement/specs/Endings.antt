@@ -14,7 +14,7 @@ use Rattle.agreement.specs.declared.Outcome.the-variants.{Nothing, Recor
 use Rattle.agreement.specs.declared.Stage.the-variants as S
 use Rattle.agreement.specs.declared.Reply.{Reply}
 use Rattle.agreement.specs.declared.Reply.the-variants.{Ended, Refused}
-use Rattle.agreement.specs.Parts.{withStage, withBytes}
+use Rattle.agreement.specs.Parts.{withBytes}
 use Rattle.agreement.specs.Rounds.{endsOn}
 use Rattle.agreement.specs.Ranges.{with-stage, with-bytes, bytes-fit}
 use Rattle.agreement.specs.Calls.{inState, whenAsked, outcomeRefusal, ending, replyOf, shown, outcome, refusalIn, recordIn}
@@ -29,7 +29,7 @@ shortened m none = none
 shortened m (some r) = some (take m r)
 
 pub ended-answers : (p : Protocol) (m : ℕ) (c : Column) (o : Option (List ℕ)) → T (fits (endsOn o c)) → Answers (machine p) m (shortened m o) (endsOn o c) Asks
-unfolding refusalAt outcome replyOf outcomeRefusal inState whenAsked ending shown refusalIn recordIn endsOn shortened withStage withBytes
+unfolding refusalAt outcome replyOf outcomeRefusal inState whenAsked ending shown refusalIn recordIn endsOn shortened
 ended-answers p m c none h = rw (is-true (fits (endsOn none c)) h) (refl, refl)
 ended-answers p m c (some r) h = rw (is-true (fits (endsOn (some r) c)) h) (refl, refl)
 
@@ -56,6 +56,6 @@ entry-bytes c e = shown-length (replyOf c) (c .bytes) e
 
 -- a column that ends
 pub ends-fits : (c : Column) → T (fits c) → (o : Option (List ℕ)) → ((r : List ℕ) (p : ℕ) → o ≡ some r → c .m ≤ p → p < 32 → getD r p 0 ≡ 0) → T (fits (endsOn o c))
-unfolding endsOn stageFits withBytes
+unfolding endsOn stageFits
 ends-fits c h none z = with-stage c h (S.Ended Nothing) tt
 ends-fits c h (some r) z = with-stage (withBytes r c) (with-bytes c h r (bytes-fit (c .m) r (λ p. z r p refl))) (S.Ended Record) tt

@@ -28,7 +28,6 @@ use Rattle.king.specs.King.{bits, chosen, proposal, settled, firm, word, crowne
 use Rattle.dispersal.specs.Dispersal.{exchange, agreesIn, agreesWith, agreementAt, agreements, agrees, firstQuorum, firstReport, reportAt, reports, reported, both, secondQuorum, secondReport, readReports, grade}
 use Rattle.dissemination.specs.Dissemination.{spoken, pointsIn, points, least, often, keptPoint, keptAt, keptPoints, pointAt, blockOf, there, coefficient, isByte, isBlock, byteAt, recordOf}
 use Rattle.agreement.specs.Column.{freshVote, brought, freshColumn, namesFit, stageFits, byteFits, flagFits, pointFits, numbersFit, arraysFit, fits}
-use Rattle.agreement.specs.Parts.{withStage, withBytes, withProposal, withAgreements, withReports, withGrade, withVote, withKept}
 use Rattle.agreement.specs.Rounds.{voteIn, voteAfter, listens, votesOne, spreads, message, outgoing, received, kingSaid, graded, firstVote, resettled, outcomeOf, endsOn, hears}
 use Rattle.agreement.specs.Calls.{refusalOf, answerOf, answered, orElse, freshRefusal, fresh, roundOf, whenSpeaking, whenListening, whenAsked, inState, inRound, speakRefusal, speak, written, listenRefusal, listen, outcomeRefusal, ending, replyOf, shown, gradeShown, outcome, refusalIn, recordIn}
 use Rattle.machine.specs.Machine.{Call, Speaks, Listens, Asks}
@@ -133,7 +132,7 @@ record Computed : Type 0 where
   ends-on-41 : Answers (machine Agreement) 1 (some (65 ∷ [])) (final (machine Agreement) (made (machine Agreement) 4 1 held 3) (lists 3)) Asks
 
 computed : Computed
-unfolding noisy toAll final afterLeading leadingCalls turns allowed wrote slicesOf sliceAfter refusalIn recordIn count all listOf rowsOf part value faults degree blocks outside refusalOfSizes readPoint readReport readBit said from refusal unlessRefused heard heardFrom heardOfAll times point valuesAt decoded found seek through under slopes decodedAs polynomialOf bits chosen proposal settled firm word crowned exchange agreesIn agreesWith agreementAt agreements agrees firstQuorum firstReport reportAt reports reported both secondQuorum secondReport readReports grade spoken pointsIn points least often keptPoint keptAt keptPoints pointAt blockOf there coefficient isByte isBlock byteAt recordOf freshColumn stageFits byteFits flagFits pointFits numbersFit arraysFit fits withStage withBytes withProposal withAgreements withReports withGrade withVote withKept votesOne spreads message outgoing received kingSaid graded firstVote resettled outcomeOf endsOn hears refusalOf answerOf answered freshRefusal fresh roundOf whenSpeaking whenListening whenAsked inState inRound speakRefusal speak written listenRefusal listen outcomeRefusal ending replyOf shown outcome refusalAt after isAsking idle made roundsIn valuesIn beside namesFit kindIn voteIn voteAfter listens orElse width phase phasesFrom kinds freshVote brought gradeShown posts
+unfolding noisy toAll final afterLeading leadingCalls turns allowed wrote slicesOf sliceAfter refusalIn recordIn count all listOf rowsOf part value faults degree blocks outside refusalOfSizes readPoint readReport readBit said from refusal unlessRefused heard heardFrom heardOfAll times point valuesAt decoded found seek through under slopes decodedAs polynomialOf bits chosen proposal settled firm word crowned exchange agreesIn agreesWith agreementAt agreements agrees firstQuorum firstReport reportAt reports reported both secondQuorum secondReport readReports grade spoken pointsIn points least often keptPoint keptAt keptPoints pointAt blockOf there coefficient isByte isBlock byteAt recordOf freshColumn stageFits byteFits flagFits pointFits numbersFit arraysFit fits votesOne spreads message outgoing received kingSaid graded firstVote resettled outcomeOf endsOn hears refusalOf answerOf answered freshRefusal fresh roundOf whenSpeaking whenListening whenAsked inState inRound speakRefusal speak written listenRefusal listen outcomeRefusal ending replyOf shown outcome refusalAt after isAsking idle made roundsIn valuesIn beside namesFit kindIn voteIn voteAfter listens orElse width phase phasesFrom kinds freshVote brought gradeShown posts
 computed =
     record {
       plays-1 = record { in-turn = refl; extras = tt; wrote-slices = refl };

@@ -26,7 +26,6 @@ use Rattle.dissemination.specs.Laws.{keptPoints-read, keptPoints-past, record-p
 use Rattle.agreement.specs.declared.Stage.{Stage}
 use Rattle.agreement.specs.declared.Column.{Column}
 use Rattle.agreement.specs.Column.{stageFits, byteFits, fits}
-use Rattle.agreement.specs.Parts.{withStage, withBytes, withProposal, withAgreements, withReports, withGrade, withVote, withKept}
 use Rattle.agreement.specs.Post.{postedBy, sentByte, postedByte, takenRecord, posted}
 use Rattle.agreement.specs.Rounds.{voteAfter, votesOne, spreads, message, received, kingSaid, graded, firstVote, resettled, outcomeOf, endsOn, hears}
 use Rattle.agreement.specs.Endings.{ends-fits}
@@ -77,7 +76,7 @@ Is p n m own c = Fixed p n m own (c .protocol) (c .n) (c .m) (c .own)
 
 -- so it is after every round
 pub hears-is : {p : Protocol} {n m own : ℕ} (kind : Kind) (next : Stage) (c : Column) (inbox : List ℕ) → Is p n m own c → Is p n m own (hears kind next c inbox)
-unfolding hears endsOn withStage withBytes withProposal withAgreements withReports withGrade withVote withKept
+unfolding hears endsOn
 hears-is Exchange next c inbox h = h
 hears-is FirstReport next c inbox h = h
 hears-is SecondReport next c inbox h = h
@@ -94,7 +93,7 @@ hears-is (Post s) next c inbox h = h
 
 -- and it goes on, where the round does not end the run
 pub hears-next : (kind : Kind) (next : Stage) (c : Column) (inbox : List ℕ) → ends kind ≡ false → hears kind next c inbox .stage ≡ next
-unfolding hears withStage touches ends
+unfolding hears touches ends
 hears-next Exchange next c inbox e = refl
 hears-next FirstReport next c inbox e = refl
 hears-next SecondReport next c inbox e = refl
@@ -107,7 +106,7 @@ hears-next (Post s) next c inbox e = refl
 
 -- the record, where no round rewrites it
 pub kept-bytes : (kind : Kind) (next : Stage) (c : Column) (inbox : List ℕ) → rewrites kind ≡ false → hears kind next c inbox .bytes ≡ c .bytes
-unfolding hears withStage withProposal withAgreements withReports withGrade withVote withKept touches rewrites
+unfolding hears touches rewrites
 kept-bytes Exchange next c inbox e = refl
 kept-bytes FirstReport next c inbox e = refl
 kept-bytes SecondReport next c inbox e = refl
@@ -120,7 +119,7 @@ kept-bytes (Post s) next c inbox e = absurd (true≢false e)
 
 -- the grade
 pub kept-grade : (kind : Kind) (next : Stage) (c : Column) (inbox : List ℕ) → regrades kind ≡ false → hears kind next c inbox .grade ≡ c .grade
-unfolding hears endsOn withStage withBytes withProposal withAgreements withReports withGrade withVote withKept regrades
+unfolding hears endsOn regrades
 kept-grade Exchange next c inbox e = refl
 kept-grade FirstReport next c inbox e = refl
 kept-grade SecondReport next c inbox e = absurd (true≢false e)
@@ -147,7 +146,7 @@ after-fits p before g b l = go (posts p)
     go false = first-fits g l
 
 pub hears-fits : (kind : Kind) (next : Stage) (c : Column) (inbox : List ℕ) → (ends kind ≡ false → T (stageFits (roundsIn (c .protocol) (c .n)) next)) → T (fits c) → T (fits (hears kind next c inbox))
-unfolding hears withProposal withAgreements withReports withGrade withVote withKept withBytes graded resettled outcomeOf posted takenRecord postedByte touches ends
+unfolding hears graded resettled outcomeOf posted takenRecord postedByte touches ends
 hears-fits Exchange next c inbox l h =
     with-stage _ (with-agreements c h _ (flags-fit (c .n) _ (agreements-past (c .n) (c .m) (c .own) (c .bytes) inbox))) next (l refl)
 hears-fits FirstReport next c inbox l h = with-stage _ (with-reports c h _ (flags-fit (c .n) _ (reports-past (c .n) (received FirstReport c inbox)))) next (l refl)
@@ -204,13 +203,13 @@ posted-length s c inbox e = go (eqb (c .own) s) (all (sentByte (postedBy s c inb
 
 -- ended, with vote `one`, on the record with the bytes f, where each block is one
 ended-shaped : (c : Column) (f : ℕ → ℕ) (one each : Bool) → Shaped c → Shaped (endsOn (cond one (cond each (some (listOf f 32)) none) none) c)
-unfolding endsOn withStage withBytes
+unfolding endsOn
 ended-shaped c f true true s = record { of-bytes = length-listOf f 32; of-agreements = s .of-agreements; of-reports = s .of-reports; of-kept = s .of-kept }
 ended-shaped c f true false s = s
 ended-shaped c f false each s = s
 
 pub hears-shaped : (kind : Kind) (next : Stage) (c : Column) (inbox : List ℕ) → Shaped c → Shaped (hears kind next c inbox)
-unfolding hears withStage withBytes withProposal withAgreements withReports withGrade withVote withKept agreements reports keptPoints outcomeOf recordOf
+unfolding hears agreements reports keptPoints outcomeOf recordOf
 hears-shaped Exchange next c inbox s =
     record { of-bytes = s .of-bytes; of-agreements = length-listOf (agreementAt (c .n) (c .m) (c .own) (c .bytes) inbox) 31; of-reports = s .of-reports; of-kept = s .of-kept }
 hears-shaped FirstReport next c inbox s =

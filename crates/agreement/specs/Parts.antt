@@ -5,34 +5,34 @@ use Prim.Native.Nat.{ℕ}
 use Rattle.agreement.specs.declared.Stage.{Stage}
 use Rattle.agreement.specs.declared.Column.{Column}
 
-unfoldable pub withStage : Stage → Column → Column
+abbrev pub withStage : Stage → Column → Column
 withStage stage c =
     record { protocol = c .protocol; n = c .n; m = c .m; own = c .own; bytes = c .bytes; proposal = c .proposal; stage = stage; agreements = c .agreements; reports = c .reports; grade = c .grade; vote = c .vote; firm = c .firm; kept = c .kept }
 
-unfoldable pub withBytes : List ℕ → Column → Column
+abbrev pub withBytes : List ℕ → Column → Column
 withBytes bytes c =
     record { protocol = c .protocol; n = c .n; m = c .m; own = c .own; bytes = bytes; proposal = c .proposal; stage = c .stage; agreements = c .agreements; reports = c .reports; grade = c .grade; vote = c .vote; firm = c .firm; kept = c .kept }
 
-unfoldable pub withProposal : ℕ → Column → Column
+abbrev pub withProposal : ℕ → Column → Column
 withProposal proposal c =
     record { protocol = c .protocol; n = c .n; m = c .m; own = c .own; bytes = c .bytes; proposal = proposal; stage = c .stage; agreements = c .agreements; reports = c .reports; grade = c .grade; vote = c .vote; firm = c .firm; kept = c .kept }
 
-unfoldable pub withAgreements : List Bool → Column → Column
+abbrev pub withAgreements : List Bool → Column → Column
 withAgreements agreements c =
     record { protocol = c .protocol; n = c .n; m = c .m; own = c .own; bytes = c .bytes; proposal = c .proposal; stage = c .stage; agreements = agreements; reports = c .reports; grade = c .grade; vote = c .vote; firm = c .firm; kept = c .kept }
 
-unfoldable pub withReports : List Bool → Column → Column
+abbrev pub withReports : List Bool → Column → Column
 withReports reports c =
     record { protocol = c .protocol; n = c .n; m = c .m; own = c .own; bytes = c .bytes; proposal = c .proposal; stage = c .stage; agreements = c .agreements; reports = reports; grade = c .grade; vote = c .vote; firm = c .firm; kept = c .kept }
 
-unfoldable pub withGrade : ℕ → Column → Column
+abbrev pub withGrade : ℕ → Column → Column
 withGrade grade c =
     record { protocol = c .protocol; n = c .n; m = c .m; own = c .own; bytes = c .bytes; proposal = c .proposal; stage = c .stage; agreements = c .agreements; reports = c .reports; grade = grade; vote = c .vote; firm = c .firm; kept = c .kept }
 
-unfoldable pub withVote : ℕ → Bool → Column → Column
+abbrev pub withVote : ℕ → Bool → Column → Column
 withVote vote firm c =
     record { protocol = c .protocol; n = c .n; m = c .m; own = c .own; bytes = c .bytes; proposal = c .proposal; stage = c .stage; agreements = c .agreements; reports = c .reports; grade = c .grade; vote = vote; firm = firm; kept = c .kept }
 
-unfoldable pub withKept : List ℕ → Column → Column
+abbrev pub withKept : List ℕ → Column → Column
 withKept kept c =
     record { protocol = c .protocol; n = c .n; m = c .m; own = c .own; bytes = c .bytes; proposal = c .proposal; stage = c .stage; agreements = c .agreements; reports = c .reports; grade = c .grade; vote = c .vote; firm = c .firm; kept = kept }

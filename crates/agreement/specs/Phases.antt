@@ -14,7 +14,6 @@ use Rattle.agreement.specs.declared.Column.{Column}
 use Rattle.protocols.specs.declared.Kind.the-variants.{Votes, Proposals, King}
 use Rattle.protocols.specs.Protocols.{width, kinds, kindIn, posts}
 use Rattle.agreement.specs.Column.{freshColumn}
-use Rattle.agreement.specs.Parts.{withStage, withProposal, withAgreements, withReports, withGrade, withVote}
 use Rattle.agreement.specs.Rounds.{voteAfter, message, received, kingSaid, firstVote, resettled, hears}
 use Rattle.agreement.specs.Kinds.{rounds-of, kind-votes, kind-proposals, kind-king}
 use Rattle.agreement.specs.Course.{course, listening}
@@ -27,7 +26,7 @@ module _ {n m : ℕ} {H : ℕ → Bool} {held : ℕ → List ℕ} {inbox : ℕ �
   votes p i = state C i (base p) .vote
 
   pub first-vote : (i : ℕ) → votes 0 i ≡ firstVote (state C i 3 .grade)
-  unfolding course kindIn kinds freshColumn voteAfter hears withStage withAgreements withReports withGrade withVote posts
+  unfolding course kindIn kinds freshColumn voteAfter hears posts
   first-vote i = refl
 
   module _ (p : ℕ) (h : p < phases n) where
@@ -66,41 +65,41 @@ module _ {n m : ℕ} {H : ℕ → Bool} {held : ℕ → List ℕ} {inbox : ℕ �
     crowns = K.crownedOf n (suc p) (votes p) (of C r₁) (of C r₂) (of C r₃)
 
     proposal-is : (i : ℕ) → state C i r₁ .proposal ≡ proposed i
-    unfolding r₁ hears withStage withProposal received message
+    unfolding r₁ hears received message
     proposal-is i =
         let a = is C i (base p) in
         ap (λ (c : Column). c .proposal) (next C i (base p) Votes is-votes) ∙ rw (a .n-is, a .own-is)
 
     vote-kept : (i : ℕ) → state C i r₁ .vote ≡ votes p i
-    unfolding r₁ hears withStage withProposal
+    unfolding r₁ hears
     vote-kept i = ap (λ (c : Column). c .vote) (next C i (base p) Votes is-votes)
 
     -- the proposals that column i hears
     heard-is : (i : ℕ) → received Proposals (listening Agreement n m i (held i) (inbox i) r₁) (of C r₂ i) ≡ proposals i
-    unfolding r₁ withStage received message
+    unfolding r₁ received message
     heard-is i =
         let a = is C i r₁ in rw (a .n-is, a .own-is, proposal-is i)
 
     settled-is : (i : ℕ) → state C i r₂ .vote ≡ settles i
-    unfolding r₁ r₂ hears withStage withVote resettled
+    unfolding r₁ r₂ hears resettled
     settled-is i =
         let a = is C i r₁ in
         ap (λ (c : Column). c .vote) (next C i r₁ Proposals is-proposals) ∙ rw (heard-is i, a .n-is, vote-kept i)
 
     firm-is : (i : ℕ) → state C i r₂ .firm ≡ firm n (proposals i) (settles i)
-    unfolding r₁ r₂ hears withStage withVote resettled
+    unfolding r₁ r₂ hears resettled
     firm-is i =
         let a = is C i r₁ in
         ap (λ (c : Column). c .firm) (next C i r₁ Proposals is-proposals) ∙ rw (heard-is i, a .n-is, vote-kept i)
 
     -- and the king's word
     word-is : (i : ℕ) → kingSaid (suc p) (listening Agreement n m i (held i) (inbox i) r₂) (of C r₃ i) ≡ K.kingSaid n (suc p) (votes p) (of C r₁) (of C r₂) (of C r₃) i
-    unfolding r₂ withStage kingSaid message
+    unfolding r₂ kingSaid message
     word-is i =
         let a = is C i r₂ in rw (settled-is i, a .own-is)
 
     crowned-is : (i : ℕ) → state C i r₃ .vote ≡ crowns i
-    unfolding r₂ r₃ hears withStage withVote
+    unfolding r₂ r₃ hears
     crowned-is i =
         ap (λ (c : Column). c .vote) (next C i r₂ (King (suc p)) is-king) ∙ ap (crowned (state C i r₂ .firm) (state C i r₂ .vote)) (word-is i)
         ∙ rw (firm-is i, settled-is i)

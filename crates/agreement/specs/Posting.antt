@@ -9,7 +9,6 @@ use Rattle.protocols.specs.Protocols.{roundsIn}
 use Rattle.messages.specs.Wall.{Sound}
 use Rattle.agreement.specs.declared.Column.{Column}
 use Rattle.agreement.specs.Column.{fits}
-use Rattle.agreement.specs.Parts.{withStage}
 use Rattle.agreement.specs.Rounds.{endsOn}
 use Rattle.machine.specs.Machine.{Asks}
 use Rattle.machine.specs.Lists.{inTurn, Run, EveryRun, AtEnd}
@@ -26,7 +25,6 @@ use Rattle.agreement.specs.Runs.{none-refused, courses, at-end, end-fits
 module _ {s n m : ℕ} {H : ℕ → Bool} {held : ℕ → List ℕ} {out inbox : ℕ → ℕ → List ℕ} (R : Run (machine (Posting s)) (Posting s) n m H held (inTurn (Posting s) n out inbox) out inbox) where
   -- wherever it is asked behind its last leading call, a column answers with its grade and what it decoded
   answers : AtEnd (machine (Posting s)) n m H held (inTurn (Posting s) n out inbox) (λ i. Outputs (machine (Posting s)) m (grades (courses R) i) (values (courses R) i))
-  unfolding withStage
   answers =
       asked (machine (Posting s)) (plain (Posting s)) R (λ i. Outputs (machine (Posting s)) m (grades C i) (values C i)) λ i si.
       subst (λ (c : Column). Outputs (machine (Posting s)) m (grades C i) (values C i) c Asks) (sym (at-end R i si ∙ ended i))

@@ -30,35 +30,35 @@ ruleset conjunction = (and-left, and-right, and-both)
 
 module _ (c : Column) (h : T (fits c)) where
   pub with-stage : (stage : Stage) → T (stageFits (roundsIn (c .protocol) (c .n)) stage) → T (fits (withStage stage c))
-  unfolding fits numbersFit namesFit arraysFit withStage
+  unfolding fits numbersFit namesFit arraysFit
   with-stage stage g = search conjunction depth 12
 
   pub with-bytes : (bytes : List ℕ) → T (all (byteFits (c .m) bytes) 32) → T (fits (withBytes bytes c))
-  unfolding fits numbersFit namesFit arraysFit withBytes
+  unfolding fits numbersFit namesFit arraysFit
   with-bytes bytes g = search conjunction depth 12
 
   pub with-proposal : (v : ℕ) → T (eqb (readBit v) v) → T (fits (withProposal v c))
-  unfolding fits numbersFit namesFit arraysFit withProposal
+  unfolding fits numbersFit namesFit arraysFit
   with-proposal v g = search conjunction depth 12
 
   pub with-agreements : (flags : List Bool) → T (all (flagFits (c .n) flags) 31) → T (fits (withAgreements flags c))
-  unfolding fits numbersFit namesFit arraysFit withAgreements
+  unfolding fits numbersFit namesFit arraysFit
   with-agreements flags g = search conjunction depth 12
 
   pub with-reports : (flags : List Bool) → T (all (flagFits (c .n) flags) 31) → T (fits (withReports flags c))
-  unfolding fits numbersFit namesFit arraysFit withReports
+  unfolding fits numbersFit namesFit arraysFit
   with-reports flags g = search conjunction depth 12
 
   pub with-grade : (v : ℕ) → T (ltb v 3) → T (fits (withGrade v c))
-  unfolding fits numbersFit namesFit arraysFit withGrade
+  unfolding fits numbersFit namesFit arraysFit
   with-grade v g = search conjunction depth 12
 
   pub with-vote : (v : ℕ) (sure : Bool) → T (ltb v 2) → T (fits (withVote v sure c))
-  unfolding fits numbersFit namesFit arraysFit withVote
+  unfolding fits numbersFit namesFit arraysFit
   with-vote v sure g = search conjunction depth 12
 
   pub with-kept : (points : List ℕ) → T (all (pointFits (blocks (c .n) (c .m)) points) 32) → T (fits (withKept points c))
-  unfolding fits numbersFit namesFit arraysFit withKept
+  unfolding fits numbersFit namesFit arraysFit
   with-kept points g = search conjunction depth 12
 
   pub vote-fits : T (ltb (c .vote) 2)

@@ -34,7 +34,7 @@ fresh-shaped p n m own bytes =
     either (eqb (freshRefusal p n m own (length bytes)) 0) (freshColumn p n m own bytes) (freshColumn Agreement 0 0 0 []) (made-shaped p n m own bytes) (made-shaped Agreement 0 0 0 [])
 
 pub after-shaped : (c : Column) (call : Call) → Shaped c → Shaped (after c call)
-unfolding after speak listen outcome answered listens withStage
+unfolding after speak listen outcome answered listens
 after-shaped c (Speaks out) s = either (eqb (speakRefusal c (length out)) 0) (withStage (Listen (roundOf (c .stage))) c) c s s
 after-shaped c (Listens inbox) s =
     either (eqb (listenRefusal c (length inbox)) 0) (listens (roundOf (c .stage)) c inbox) c

@@ -12,7 +12,6 @@ use Rattle.sizes.specs.Sizes.{refusal as refusalOfSizes}
 use Rattle.protocols.specs.Protocols.{roundsIn, valuesIn, beside, kindIn}
 use Rattle.agreement.specs.declared.Stage.the-variants.{Speak}
 use Rattle.agreement.specs.declared.Column.{Column}
-use Rattle.agreement.specs.Parts.{withStage}
 use Rattle.agreement.specs.Rounds.{outgoing, listens, hears}
 use Rattle.agreement.specs.Calls.{written}
 use Rattle.machine.specs.Machine.{Call, Speaks, Listens}
@@ -65,7 +64,7 @@ module _ (p : Protocol) (n m own : ℕ) (bytes : List ℕ) (inbox : ℕ → List
         spoke (at q) (suc q) (course-fits p n m own bytes inbox (A .accepted) (A .poster) (A .full) q (omega arith)) (out (suc q)) (to-speak p n m own bytes inbox q l) (rw (is .protocol-is, is .n-is, is .m-is) (A .out-length (suc q) (omega arith) l))
 
     pub listens-in : (q : ℕ) → q < roundsIn p n → (refusalAt (between q) (Listens (inbox (suc q))) ≡ 0) × (after (between q) (Listens (inbox (suc q))) ≡ at (suc q))
-    unfolding course withStage listens
+    unfolding course listens
     listens-in q l =
         let is = course-is p n m own bytes inbox q in
         let (done, next) = listened (between q) (suc q) (listening-fits p n m own bytes inbox (A .accepted) (A .poster) (A .full) q l (course-fits p n m own bytes inbox (A .accepted) (A .poster) (A .full) q (omega arith))) (inbox (suc q)) refl (rw (is .protocol-is, is .n-is, is .m-is) (A .inbox-length (suc q) (omega arith) l)) in

@@ -17,7 +17,6 @@ use Rattle.king.specs.King.{bits, chosen, proposal, settled, firm, word, crowne
 use Rattle.dispersal.specs.Dispersal.{exchange, agreesIn, agreesWith, agreementAt, agreements, agrees, firstQuorum, firstReport, reportAt, reports, reported, both, secondQuorum, secondReport, readReports, grade}
 use Rattle.dissemination.specs.Dissemination.{spoken, pointsIn, points, least, often, keptPoint, keptAt, keptPoints, pointAt, blockOf, there, coefficient, isByte, isBlock, byteAt, recordOf}
 use Rattle.agreement.specs.Column.{freshVote, brought, freshColumn, namesFit, stageFits, byteFits, flagFits, pointFits, numbersFit, arraysFit, fits}
-use Rattle.agreement.specs.Parts.{withStage, withBytes, withProposal, withAgreements, withReports, withGrade, withVote, withKept}
 use Rattle.agreement.specs.Post.{postedBy, sentByte, postedByte, takenRecord, posted}
 use Rattle.agreement.specs.Rounds.{voteIn, voteAfter, listens, votesOne, spreads, message, outgoing, received, kingSaid, graded, firstVote, resettled, outcomeOf, endsOn, hears}
 use Rattle.agreement.specs.Calls.{answerOf as answerTo, answered, orElse, freshRefusal, fresh, noColumn, roundOf, whenSpeaking, whenListening, whenAsked, inState, inRound, speakRefusal, speak, written, listenRefusal, listen, outcomeRefusal, ending, replyOf, shown, gradeIn, gradeShown, outcome}
@@ -149,7 +148,7 @@ pub record Worked : Type 0 where
   pub bytes-before-poster : listingOf (Posting 0) (4 ∷ 0 ∷ []) ≡ ascii "refused 2\n"
 
 pub worked : Worked
-unfolding roundsIn valuesIn lineIn beside readByte namesFit kindIn voteIn voteAfter postedBy sentByte postedByte takenRecord posted listens orElse gradeIn gradeShown count sum all listOf rowsOf inverse inverseBelow part value faults degree blocks refusal outside readPoint readReport readBit said from refusalOfLength unlessRefused heard heardFrom heardOfAll times point valuesAt decoded found seek through under slopes answerOf polynomialOf bits chosen proposal settled firm word crowned exchange agreesIn agreesWith agreementAt agreements agrees firstQuorum firstReport reportAt reports reported both secondQuorum secondReport readReports grade spoken pointsIn points least often keptPoint keptAt keptPoints pointAt blockOf there coefficient isByte isBlock byteAt recordOf freshColumn stageFits byteFits flagFits pointFits numbersFit arraysFit fits withStage withBytes withProposal withAgreements withReports withGrade withVote withKept votesOne spreads message outgoing received kingSaid graded firstVote resettled outcomeOf endsOn hears answerTo answered freshRefusal fresh noColumn roundOf whenSpeaking whenListening whenAsked inState inRound speakRefusal speak written listenRefusal listen outcomeRefusal ending replyOf shown outcome columns bytes mark sound unsound unsoundTo recordPlace recordIn arrays wordAt lineValue whole markFits inOrder refusalOfMarks refusalOfSheet mailed lied sent inbox columnAt turned each made start roundAt blanks spoke words wordsOf mail heardBy played after ended hasRecord markOnly entryAsked soundEntry entryOf entryIn refusalOfRun inPlaces ran refused outcomes ascii joined digit decimal named hexDigit hex hexAt hexes sizesLine recordText soundLine unsoundLine columnLine lineAt columnLines refusedLine listing listingOf width phase phasesFrom kinds freshVote brought posts
+unfolding roundsIn valuesIn lineIn beside readByte namesFit kindIn voteIn voteAfter postedBy sentByte postedByte takenRecord posted listens orElse gradeIn gradeShown count sum all listOf rowsOf inverse inverseBelow part value faults degree blocks refusal outside readPoint readReport readBit said from refusalOfLength unlessRefused heard heardFrom heardOfAll times point valuesAt decoded found seek through under slopes answerOf polynomialOf bits chosen proposal settled firm word crowned exchange agreesIn agreesWith agreementAt agreements agrees firstQuorum firstReport reportAt reports reported both secondQuorum secondReport readReports grade spoken pointsIn points least often keptPoint keptAt keptPoints pointAt blockOf there coefficient isByte isBlock byteAt recordOf freshColumn stageFits byteFits flagFits pointFits numbersFit arraysFit fits votesOne spreads message outgoing received kingSaid graded firstVote resettled outcomeOf endsOn hears answerTo answered freshRefusal fresh noColumn roundOf whenSpeaking whenListening whenAsked inState inRound speakRefusal speak written listenRefusal listen outcomeRefusal ending replyOf shown outcome columns bytes mark sound unsound unsoundTo recordPlace recordIn arrays wordAt lineValue whole markFits inOrder refusalOfMarks refusalOfSheet mailed lied sent inbox columnAt turned each made start roundAt blanks spoke words wordsOf mail heardBy played after ended hasRecord markOnly entryAsked soundEntry entryOf entryIn refusalOfRun inPlaces ran refused outcomes ascii joined digit decimal named hexDigit hex hexAt hexes sizesLine recordText soundLine unsoundLine columnLine lineAt columnLines refusedLine listing listingOf width phase phasesFrom kinds freshVote brought posts
 worked =
     record {
       sizes-of-4 = (refl, refl);

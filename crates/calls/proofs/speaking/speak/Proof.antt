@@ -20,7 +20,7 @@ answered-requires : tie.Need-answered-requires
 answered-requires c κs = search needs
 
 returns : tie.Need-returns
-unfolding speak withStage
+unfolding speak
 returns c = let r = c .before .before .before .before .before .before in
     let t = r .before in
     let a = t .before .before .args in
@@ -42,7 +42,7 @@ same-length : tie.Need-same-length
 same-length c = search needs
 
 returns-2 : tie.Need-returns-2
-unfolding speak withStage
+unfolding speak
 returns-2 c = let s = c .before .before .before in
     let v = s .before .before in
     let i = v .before in

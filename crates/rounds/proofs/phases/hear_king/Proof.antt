@@ -2,7 +2,6 @@
 use mathlib.Core.Path.{_≡_, refl}
 use borrow.Author.Needs.{needs}
 use Rattle.king.specs.King.{crowned}
-use Rattle.agreement.specs.Parts.{withStage, withVote}
 use Rattle.agreement.specs.Rounds.{hears}
 use Rattle.rounds.proofs.phases.hear_king.Statement.{statement}
 use Rattle.rounds.proofs.phases.hear_king.Tie as tie
@@ -14,7 +13,7 @@ crowned-requires : tie.Need-crowned-requires
 crowned-requires c κs = search needs
 
 returns : tie.Need-returns
-unfolding hears withStage withVote
+unfolding hears
 returns c =
     let a = c .before .before .before .before .before .before .before .args in
     let said = c .before .before .before .before .before .king-said .result in

@@ -17,7 +17,7 @@ firm-requires : tie.Need-firm-requires
 firm-requires c κs = search needs
 
 returns : tie.Need-returns
-unfolding hears withStage received message withVote resettled
+unfolding hears received message resettled
 returns c =
     let a = c .before .before .before .before .before .before .before .before .args in
     let vote = c .before .before .before .before .before .settled .result in

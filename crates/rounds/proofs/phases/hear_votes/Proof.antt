@@ -1,7 +1,6 @@
 -- `phases::hear_votes` meets its contract.
 use mathlib.Core.Path.{refl}
 use borrow.Author.Needs.{needs}
-use Rattle.agreement.specs.Parts.{withStage, withProposal}
 use Rattle.agreement.specs.Rounds.{hears, received, message}
 use Rattle.rounds.proofs.phases.hear_votes.Statement.{statement}
 use Rattle.rounds.proofs.phases.hear_votes.Tie as tie
@@ -16,7 +15,7 @@ proposal-requires : tie.Need-proposal-requires
 proposal-requires c κs = search needs
 
 returns : tie.Need-returns
-unfolding hears withStage received withProposal message
+unfolding hears received message
 returns c = rw (c .before .before .before .before .proposal .ensures, c .before .before .before .before .before .received .ensures) refl
 
 pub hear-votes-spec : {M : Type 1} → statement M

@@ -1,7 +1,6 @@
 -- `post::hear` meets its contract.
 use mathlib.Core.Path.{refl}
 use borrow.Author.Needs.{needs}
-use Rattle.agreement.specs.Parts.{withStage, withBytes}
 use Rattle.agreement.specs.Rounds.{hears}
 use Rattle.rounds.proofs.post.hear.Statement.{statement}
 use Rattle.rounds.proofs.post.hear.Tie as tie
@@ -10,7 +9,7 @@ posted-requires : tie.Need-posted-requires
 posted-requires c κs = search needs
 
 returns : tie.Need-returns
-unfolding hears withStage withBytes
+unfolding hears
 returns c = rw (c .before .before .before .posted .ensures) refl
 
 pub hear-spec : {M : Type 1} → statement M

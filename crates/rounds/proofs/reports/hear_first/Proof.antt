@@ -1,7 +1,6 @@
 -- `reports::hear_first` meets its contract.
 use mathlib.Core.Path.{refl}
 use borrow.Author.Needs.{needs}
-use Rattle.agreement.specs.Parts.{withStage, withReports}
 use Rattle.agreement.specs.Rounds.{hears, received, message}
 use Rattle.rounds.proofs.reports.hear_first.Statement.{statement}
 use Rattle.rounds.proofs.reports.hear_first.Tie as tie
@@ -16,7 +15,7 @@ received-requires-2 : tie.Need-received-requires-2
 received-requires-2 c κs = search needs
 
 returns : tie.Need-returns
-unfolding hears withStage received withReports message
+unfolding hears received message
 returns c =
     let r = c .before .before .before in
     rw (r .received2 .ensures, r .before .received .ensures, r .before .before .first-report .ensures) refl

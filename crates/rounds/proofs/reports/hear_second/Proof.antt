@@ -1,7 +1,6 @@
 -- `reports::hear_second` meets its contract.
 use mathlib.Core.Path.{refl}
 use borrow.Author.Needs.{needs}
-use Rattle.agreement.specs.Parts.{withStage, withGrade, withVote}
 use Rattle.agreement.specs.Rounds.{hears, received, message, graded}
 use Rattle.rounds.proofs.reports.hear_second.Statement.{statement}
 use Rattle.rounds.proofs.reports.hear_second.Tie as tie
@@ -22,7 +21,7 @@ vote-after-requires : tie.Need-vote-after-requires
 vote-after-requires c κs = search needs
 
 returns : tie.Need-returns
-unfolding hears withStage received withGrade withVote graded message
+unfolding hears received graded message
 returns c =
     let v = c .before .before .before .before in
     let g = v .before .before in

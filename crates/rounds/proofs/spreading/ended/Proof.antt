@@ -1,11 +1,9 @@
 -- `spreading::ended` meets its contract.
 use mathlib.Core.Path.{refl}
-use Rattle.agreement.specs.Parts.{withStage}
 use Rattle.rounds.proofs.spreading.ended.Statement.{statement}
 use Rattle.rounds.proofs.spreading.ended.Tie as tie
 
 returns : tie.Need-returns
-unfolding withStage
 returns c = refl
 
 pub ended-spec : {M : Type 1} → statement M

@@ -35,7 +35,7 @@ ended-requires-3 : tie.Need-ended-requires-3
 ended-requires-3 c κs = search needs
 
 returns-3 : tie.Need-returns-3
-unfolding withBytes width
+unfolding width
 returns-3 c = let e : c .ended3 .result ≡ withStage (Ended Record) (withBytes (c .before .before .before .before .before .before .before .decode .result .bytes) (c .before .before .before .before .before .before .before .before .before .before .before .before .args .column)) = c .ended3 .ensures in
     e ∙ ends-record _ _ (sym (c .before .before .before .before .before .before .before .before .before .before .votes-one .ensures) ∙ not-false _ (c .before .before .before .before .before .before .before .before .before .if1 .left)) (points-heard _ _ KeptPoints refl (c .before .before .before .before .before .before .before .before .before .before .before .before .pre)) _ (c .before .before .before .before .before .before .before .decode .ensures) (not-false _ (c .before .before .before .before .before .if2 .left))
 

@@ -13,7 +13,7 @@ use Rattle.state_bytes.specs.Layout.{Grade, number}
 use Rattle.state_bytes.specs.Entry.{entryLength, readEntry}
 use Rattle.column_bytes.specs.Calls.{narrow, freshAnswer, freshState, speakAnswer, speakState, speakOut, listenAnswer, listenState, outcomeAnswer, outcomeOut}
 
--- A SLICE FOR THE STATE: the whole state, or its first k bytes and others behind them, which has another length
+-- A SLICE FOR THE STATE: the state itself, or its first k bytes and others behind them, which for k = 0 is any slice
 pub data Lent : Type 0 where
   whole : Lent
   other : ℕ → List ℕ → Lent

@@ -215,8 +215,8 @@ module _ (n m : ℕ) where
   unfolding kinds width total
   line-posting s = line-total (Posting s) ∙ omega arith
 
--- beside the codewords of two rounds and the points of two, no line has more than 3t + 5 or m + 3 values
-pub line-le : (p : Protocol) (n m rest : ℕ) → 3 * faults n + 5 ≤ rest → m + 3 ≤ rest → lineIn p n m ≤ 4 * blocks n m + rest
+-- no line is longer than the longer of these two
+pub line-le : (p : Protocol) (n m rest : ℕ) → 3 * faults n + 5 ≤ rest → m + 2 ≤ rest → lineIn p n m ≤ 4 * blocks n m + rest
 line-le Agreement n m rest a b = omega (arith, line-agreement n m)
 line-le (Posting s) n m rest a b = omega (arith, line-posting n m s)
 

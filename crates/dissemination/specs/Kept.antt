@@ -15,6 +15,7 @@ use Rattle.lists.specs.Tests.{passes}
 use Rattle.lists.specs.Count.{mono, count-not, count-le, find, Found, count-same, count-past}
 use Rattle.field.specs.Field.{blank}
 use Rattle.sizes.specs.Sizes.{faults}
+use Rattle.sizes.specs.Laws.{faults-fewer}
 use Rattle.messages.specs.Messages.{readPoint, from, times}
 use Rattle.messages.specs.Laws.{point-is, same-point}
 use Rattle.dissemination.specs.Dissemination.{least, often, keptPoint}
@@ -213,11 +214,11 @@ crowd received v w n h =
 
 -- a point that all but t columns sent leaves no room for another
 pub settled : (n : ℕ) (received : ℕ → ℕ) (best v c : ℕ) → 1 ≤ n → c ≡ weight n received best v → n ≤ c + faults n → v ≡ keptPoint n received
-unfolding weight often faults
+unfolding weight often
 settled n received best v c l e h = go (ltb v best) (ltb v 257) refl refl (rw e at h)
   where
     few : 3 * faults n < n
-    few = omega arith
+    few = omega (arith, faults-fewer n)
 
     go : (p q : Bool) → ltb v best ≡ p → ltb v 257 ≡ q → n ≤ cond (p && q) (times received v n) 0 + faults n → v ≡ keptPoint n received
     go false q ep eq k = absurd (omega (arith, few))

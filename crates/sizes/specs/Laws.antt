@@ -11,9 +11,13 @@ use Rattle.sizes.specs.Sizes.{faults, degree, blocks, outside, refusal}
 
 -- BOUNDS OF ANY SIZES, IN RANGE OR NOT
 
-pub faults-le : (n : ℕ) → faults n ≤ n
+-- three of t are fewer than n columns
+pub faults-fewer : (n : ℕ) → 3 * faults n ≤ n - 1
 unfolding faults
-faults-le n = omega arith
+faults-fewer n = omega arith
+
+pub faults-le : (n : ℕ) → faults n ≤ n
+faults-le n = omega (arith, faults-fewer n)
 
 pub blocks-le : (n m : ℕ) → blocks n m ≤ m
 unfolding blocks

@@ -6,8 +6,9 @@ ghost use mathlib.Core.Path.{_≡_};
 ghost use mathlib.Core.Bool.{true, cond};
 ghost use Prim.Native.Nat.{_+_, _*_, _≤_, _<_};
 ghost use lib.Dec.{ltb};
-ghost use lib.ListN.{length};
+ghost use lib.ListN.{length, replicate};
 ghost use Rattle.lists.specs.Lists.{listOf};
+ghost use Rattle.field.specs.Field.{blank};
 ghost use Rattle.sizes.specs.Sizes.{blocks, refusal as refusalOfSizes};
 ghost use Rattle.messages.specs.Messages.{from, unlessRefused, times as timesOf};
 ghost use Rattle.dissemination.specs.Dissemination.{pointsToAll, keptPoint, keptPoints, roundRefusal, kept as keptOf};
@@ -64,17 +65,15 @@ fn heard_at(own: u8, mine: u16, b: u16, inbox: &[u16], k: u16, i: u8) -> u16
     inbox[at]
 }
 
-// Value k from each of n columns, in 32 places; blank past n. In the slice they lie apart, and each count looks at all of them.
-fn gathered(n: u8, own: u8, mine: u16, b: u16, inbox: &[u16], k: u16) -> [u16; 32]
-    requires { ⌜ (n ≤ 31) × (k < b) × (n * b ≡ length (now inbox)) ⌝ }
-    ensures { λ r. ⌜ r ≡ listOf (placed n (heardOf own mine b (now (inbox .entry)) k)) 32 ⌝ }
+// Value k from each of n columns, in 32 places that were blank; blank past n. In the slice they lie apart, and each count looks at all of them.
+fn gather(n: u8, own: u8, mine: u16, b: u16, inbox: &[u16], k: u16, values: &mut [u16; 32])
+    requires { ⌜ (n ≤ 31) × (k < b) × (n * b ≡ length (now inbox)) × (now values ≡ replicate 32 blank) ⌝ }
+    ensures { λ _. ⌜ now (values .exit) ≡ listOf (placed n (heardOf own mine b (now (inbox .entry)) k)) 32 ⌝ }
 {
-    let mut values = [Field::BLANK; 32];
     for i in 0..n {
         let at = i as usize;
         values[at] = heard_at(own, mine, b, inbox, k, i);
     }
-    values
 }
 
 // How many of the values are v. All 32 places are looked at, however many columns there are, so that the machine does eight at a time.
@@ -117,7 +116,8 @@ fn kept_point(n: u8, own: u8, mine: u16, b: u16, inbox: &[u16], k: u16) -> u16
     ensures { λ r. ⌜ r ≡ keptPoint n (heardOf own mine b (now (inbox .entry)) k) ⌝ }
 {
     let t = sizes::faults(n);
-    let values = gathered(n, own, mine, b, inbox, k);
+    let mut values = [Field::BLANK; 32];
+    gather(n, own, mine, b, inbox, k, &mut values);
     let mut best = Field::BLANK;
     for i in 0..n {
         let at = i as usize;

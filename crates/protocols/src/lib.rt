@@ -70,22 +70,24 @@ fn king_round(q: u8) -> Kind
     Kind::King(q / 3 + 1)
 }
 
-// The round of an agreement that follows the first three and q others.
-fn later_round(n: u8, q: u8) -> Kind
+// The round of an agreement that follows the first three and q others, where a run has `last` rounds.
+fn later_round(n: u8, last: usize, q: u8) -> Kind
+    requires { ⌜ last ≡ roundsIn Agreement n ⌝ }
     ensures { λ r. ⌜ r ≡ kindIn Agreement n (q + 4) ⌝ }
 {
-    let many = 3 * (sizes::faults(n) + 1);
-    if (q as usize) < many {
+    let next = q as usize + 5;
+    if next < last {
         return king_round(q);
     }
-    if q as usize == many {
+    if next == last {
         return Kind::Points;
     }
     Kind::KeptPoints
 }
 
-// The kind of a round of an agreement.
-fn agreement_kind(n: u8, round: u8) -> Kind
+// The kind of a round of an agreement, where a run has `last` rounds.
+fn agreement_kind(n: u8, last: usize, round: u8) -> Kind
+    requires { ⌜ last ≡ roundsIn Agreement n ⌝ }
     ensures { λ r. ⌜ r ≡ kindIn Agreement n round ⌝ }
 {
     if round <= 1 {
@@ -97,7 +99,7 @@ fn agreement_kind(n: u8, round: u8) -> Kind
     if round == 3 {
         return Kind::SecondReport;
     }
-    later_round(n, round - 4)
+    later_round(n, last, round - 4)
 }
 
 // The kind of a round of a posting.
@@ -122,24 +124,33 @@ fn posting_kind(s: u8, n: u8, round: u8) -> Kind
     Kind::KeptPoints
 }
 
+// The kind of a round of a run of `last` rounds: whoever asks has counted them, and t is found once.
+fn kind_of(protocol: Protocol, n: u8, last: usize, round: u8) -> Kind
+    requires { ⌜ last ≡ roundsIn protocol n ⌝ }
+    ensures { λ r. ⌜ r ≡ kindIn protocol n round ⌝ }
+{
+    match protocol {
+        Protocol::Agreement => agreement_kind(n, last, round),
+        Protocol::Posting(s) => posting_kind(s, n, round),
+    }
+}
+
 // The kind of a round of a run on a wall of n columns.
 pub fn kind_in(protocol: Protocol, n: u8, round: u8) -> Kind
     ensures { λ r. ⌜ r ≡ kindIn protocol n round ⌝ }
 {
-    match protocol {
-        Protocol::Agreement => agreement_kind(n, round),
-        Protocol::Posting(s) => posting_kind(s, n, round),
-    }
+    kind_of(protocol, n, rounds_in(protocol, n), round)
 }
 
 // The values of one message in a round of a run; none in a round that it does not have.
 pub fn values_in(protocol: Protocol, n: u8, m: u8, round: u8) -> u16
     ensures { λ r. ⌜ r ≡ valuesIn protocol n m round ⌝ }
 {
-    if sizes::outside(1, rounds_in(protocol, n), round as usize) {
+    let last = rounds_in(protocol, n);
+    if sizes::outside(1, last, round as usize) {
         return 0;
     }
-    width(kind_in(protocol, n, round), n, m)
+    width(kind_of(protocol, n, last, round), n, m)
 }
 
 // The values of all rounds of a run that an unsound column sends one receiver.

@@ -15,8 +15,8 @@ returns : tie.Need-returns
 unfolding valuesIn
 returns c = rw (sym (c .before .before .rounds-in .ensures), sym (c .before .outside .ensures) ∙ c .if1 .taken) refl
 
-kind-in-requires : tie.Need-kind-in-requires
-kind-in-requires c κs = search needs
+kind-of-requires : tie.Need-kind-of-requires
+kind-of-requires c κs = c .before .before .rounds-in .ensures
 
 width-requires : tie.Need-width-requires
 width-requires c κs = search needs
@@ -24,9 +24,9 @@ width-requires c κs = search needs
 returns-2 : tie.Need-returns-2
 unfolding valuesIn
 returns-2 c =
-    rw (c .width .ensures, c .before .kind-in .ensures, sym (c .before .before .before .before .rounds-in .ensures), sym (c .before .before .before .outside .ensures) ∙ c .before .before .if1 .left) refl
+    rw (c .width .ensures, c .before .kind-of .ensures, sym (c .before .before .before .before .rounds-in .ensures), sym (c .before .before .before .outside .ensures) ∙ c .before .before .if1 .left) refl
 
 pub values-in-spec : {M : Type 1} → statement M
 values-in-spec =
     tie.close
-    (tie.spec rounds-in-requires outside-requires returns kind-in-requires width-requires returns-2)
+    (tie.spec rounds-in-requires outside-requires returns kind-of-requires width-requires returns-2)

@@ -1,5 +1,5 @@
 -- `points::kept_point` meets its contract.
-use mathlib.Core.Path.{_∙_}
+use mathlib.Core.Path.{refl, _∙_}
 use Prim.Native.Nat.{_-_}
 use native.Mathlib.Omega.{arith}
 use lib.ListN.{getD}
@@ -19,8 +19,8 @@ abbrev μ-loop : tie.MeasureT-loop
 faults-requires : tie.Need-faults-requires Inv-loop μ-loop
 faults-requires c κs = tt
 
-gathered-requires : tie.Need-gathered-requires Inv-loop μ-loop
-gathered-requires c κs = c .before .before .pre
+gather-requires : tie.Need-gather-requires Inv-loop μ-loop
+gather-requires c κs = let p = c .before .before .before .pre in (p .0, p .1, p .2, refl)
 
 loop-holds : tie.Need-loop-holds Inv-loop μ-loop
 loop-holds c = best-none _ _
@@ -39,14 +39,14 @@ weight-requires c κs = tt
 
 add-if1 : tie.Need-add-if1 Inv-loop μ-loop
 add-if1 c =
-    let a = c .before .before .before .before .before .before .args in
-    let values = c .before .before .before .gathered .result in
-    record { fits = omega (arith, c .weight .ensures, weight-le 32 (from values) (c .before .before .loop .best) (getD values (c .before .before .loop .i) 0), c .before .before .before .before .faults .ensures, faults-le (a .n)) }
+    let a = c .before .before .before .before .before .before .before .args in
+    let values = c .before .before .before .gather .last .1 .1 .1 .1 .1 .1 .0 in
+    record { fits = omega (arith, c .weight .ensures, weight-le 32 (from values) (c .before .before .loop .best) (getD values (c .before .before .loop .i) 0), c .before .before .before .before .before .faults .ensures, faults-le (a .n)) }
 
 returns : tie.Need-returns Inv-loop μ-loop
 returns c =
-    settled _ _ _ _ _ (omega arith) (c .before .weight .ensures ∙ weight-placed _ _ _ (c .before .before .before .before .gathered .ensures) (omega arith) _ _)
-    (omega (arith, c .if1 .taken, c .before .before .before .before .before .faults .ensures))
+    settled _ _ _ _ _ (omega arith) (c .before .weight .ensures ∙ weight-placed _ _ _ (c .before .before .before .before .gather .ensures) (omega arith) _ _)
+    (omega (arith, c .if1 .taken, c .before .before .before .before .before .before .faults .ensures))
 
 heavier-requires : tie.Need-heavier-requires Inv-loop μ-loop
 heavier-requires c κs = tt
@@ -59,10 +59,10 @@ loop-less c = omega arith
 
 loop-again : tie.Need-loop-again Inv-loop μ-loop
 loop-again c =
-    let all = c .before .before .before .before .before .gathered .ensures in
+    let all = c .before .before .before .before .before .gather .ensures in
     best-more _ _ _ _ _ (c .before .before .before .before .loop .inv) (omega arith)
     (c .heavier .ensures
-    ∙ better-is _ _ _ _ _ _ _ (c .before .before .before .before .before .before .faults .ensures) (c .before .before .weight .ensures ∙ weight-placed _ _ _ all (omega arith) _ _) (placed-at _ _ _ all (omega arith) _ 0 (omega arith)))
+    ∙ better-is _ _ _ _ _ _ _ (c .before .before .before .before .before .before .before .faults .ensures) (c .before .before .weight .ensures ∙ weight-placed _ _ _ all (omega arith) _ _) (placed-at _ _ _ all (omega arith) _ 0 (omega arith)))
 
 returns-2 : tie.Need-returns-2 Inv-loop μ-loop
 returns-2 c = best-done _ _ _ _ (c .before .loop .inv) (omega arith)
@@ -74,7 +74,7 @@ kept-point-spec =
     Inv-loop
     μ-loop
     faults-requires
-    gathered-requires
+    gather-requires
     loop-holds
     cast-at
     mul-v

@@ -45,7 +45,7 @@ pub struct Sizes {
 }
 
 impl Sizes {
-    /// By the formulas, whatever n and m are.
+    /// By document 01's formulas, whatever n and m are. For 4 to 31 columns document 02's ranges are the same.
     pub fn by_formula(n: u32, m: u32) -> Sizes {
         let (n, m) = (n as usize, m as usize);
         let t = n.saturating_sub(1) / 3;

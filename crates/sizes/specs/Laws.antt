@@ -1,23 +1,81 @@
--- The laws of the sizes: how large each can get, and what an accepted wall has (`Sized`, `Accepted`).
+-- The laws of the sizes: that the tables are document 01's formulas, how large each size can get, and what an accepted wall has (`Sized`, `Accepted`).
 use mathlib.Core.Path.{_≡_, refl}
-use mathlib.Core.Bool.{Bool, true, false, cond, _||_, true≢false}
+use mathlib.Core.Bool.{Bool, true, false, cond, _&&_, _||_, true≢false}
 use mathlib.Core.Logic.{_⊎_, inl, inr}
+use mathlib.Core.List.{List, [], _∷_}
 use Prim.Native.Nat.{ℕ, _+_, _-_, _*_, _/_, _≤_, _<_}
 use native.Mathlib.Nat.{eq-zero-or-pos, div-mul-le-self, div-eq-of-lt, le-div-iff-mul-le, lt-div-mul-add, div-le-of-le-mul, mul-le-mul-left}
+use native.Mathlib.Decide.{decLe}
 use native.Mathlib.Omega.{arith}
-use borrow.Author.Tests.{ltb-false, lt-ltb, le-ltb}
-use lib.Dec.{ltb}
-use Rattle.sizes.specs.Sizes.{faults, degree, blocks, outside, refusal}
+use borrow.Author.Tests.{ltb-false, lt-ltb, le-ltb, lt-leb}
+use lib.Dec.{T, eqb, leb, ltb, eqb→eq, leb→le}
+use Rattle.lists.specs.Lists.{all}
+use Rattle.lists.specs.Entries.{all-each}
+use Rattle.lists.specs.Tests.{and-left, and-right}
+use Rattle.sizes.specs.Sizes.{Row, _to_is_, lookUp, faultRows, faults, degreeRows, degree, blocks, outside, refusal}
+
+-- THE TABLES OF t AND d
+
+-- what a computed test says of every number up to 31
+computed : (f g : ℕ → ℕ) → T (all (λ n. eqb (f n) (g n)) 32) → (n : ℕ) → n ≤ 31 → f n ≡ g n
+computed f g t n h = eqb→eq (f n) (g n) (all-each (λ n. eqb (f n) (g n)) 32 t n (omega arith))
+
+-- "t = floor((n - 1) / 3)"
+pub faults-formula : (n : ℕ) → n ≤ 31 → faults n ≡ (n - 1) / 3
+unfolding all faults
+faults-formula = computed faults (λ n. (n - 1) / 3) tt
+
+-- "d = floor(t / 3)"
+pub degree-formula : (n : ℕ) → n ≤ 31 → degree n ≡ faults n / 3
+unfolding all faults degree
+degree-formula = computed degree (λ n. faults n / 3) tt
+
+-- no range goes past 31, and so past it both are 0
+ends : List Row → Bool
+ends [] = true
+ends (first to last is y ∷ rows) = leb last 31 && ends rows
+
+past : (rows : List Row) (n : ℕ) → T (ends rows) → 31 < n → lookUp rows n ≡ 0
+unfolding ends
+past [] n t h = refl
+past (first to last is y ∷ rows) n t h =
+    let e : leb n last ≡ false = lt-leb n last (omega (arith, leb→le last 31 (and-left (leb last 31) (ends rows) t))) in
+    rw e (go (leb first n) (past rows n (and-right (leb last 31) (ends rows) t) h))
+  where
+    go : (b : Bool) → lookUp rows n ≡ 0 → cond (b && false) y (lookUp rows n) ≡ 0
+    go true e = e
+    go false e = e
+
+pub faults-past : (n : ℕ) → 31 < n → faults n ≡ 0
+unfolding faults ends
+faults-past n = past faultRows n tt
+
+pub degree-past : (n : ℕ) → 31 < n → degree n ≡ 0
+unfolding degree ends
+degree-past n = past degreeRows n tt
 
 -- BOUNDS OF ANY SIZES, IN RANGE OR NOT
 
+bounds : (n : ℕ) → (3 * faults n ≤ n - 1) × (3 * degree n ≤ faults n) × (degree n ≤ 3)
+bounds n = go (decLe n 31)
+  where
+    go : Dec (n ≤ 31) → (3 * faults n ≤ n - 1) × (3 * degree n ≤ faults n) × (degree n ≤ 3)
+    go (yes h) = omega (arith, faults-formula n h, degree-formula n h)
+    go (no h) = omega (arith, faults-past n (omega arith), degree-past n (omega arith))
+
 -- three of t are fewer than n columns
 pub faults-fewer : (n : ℕ) → 3 * faults n ≤ n - 1
-unfolding faults
-faults-fewer n = omega arith
+faults-fewer n = bounds n .0
 
 pub faults-le : (n : ℕ) → faults n ≤ n
-faults-le n = omega (arith, faults-fewer n)
+faults-le n = omega (arith, bounds n)
+
+-- nine of d are no more than n
+pub degree-le : (n : ℕ) → 9 * degree n ≤ n
+degree-le n = omega (arith, bounds n)
+
+pub degree-small : (n : ℕ) → degree n ≤ 3
+degree-small n = bounds n .2
 
 pub blocks-le : (n m : ℕ) → blocks n m ≤ m
 unfolding blocks
@@ -56,8 +114,10 @@ pub record Sized (n m : ℕ) : Type 0 where
   pub blocks-high : blocks n m ≤ m
 
 pub sized : (n m : ℕ) → InRange n m → Sized n m
-unfolding faults degree blocks
+unfolding blocks
 sized n m r =
+    let t : faults n ≡ (n - 1) / 3 = faults-formula n (r .columns-high) in
+    let d : degree n ≡ faults n / 3 = degree-formula n (r .columns-high) in
     let enough : m < (m + degree n) / (degree n + 1) * (degree n + 1) + 1 = omega (arith, lt-div-mul-add {a = m + degree n} {b = degree n + 1} (omega arith)) in
     record {
       faults-few = omega arith;
@@ -73,11 +133,6 @@ sized n m r =
       blocks-low = le-div-iff-mul-le {k = degree n + 1} {x = 1} {y = m + degree n} (omega arith) .1 (omega arith);
       blocks-high = blocks-le n m;
     }
-
--- in range or not, nine of d are no more than n
-pub degree-le : (n : ℕ) → 9 * degree n ≤ n
-unfolding faults degree
-degree-le n = omega arith
 
 -- REFUSALS
 

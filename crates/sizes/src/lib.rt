@@ -33,23 +33,43 @@ pub fn refusal(n: u8, m: u8, number: u8) -> u8
 pub fn faults(n: u8) -> usize
     ensures { λ r. ⌜ r ≡ faultsOf n ⌝ }
 {
-    if n == 0 {
-        return 0;
+    match n {
+        4..=6 => 1,
+        7..=9 => 2,
+        10..=12 => 3,
+        13..=15 => 4,
+        16..=18 => 5,
+        19..=21 => 6,
+        22..=24 => 7,
+        25..=27 => 8,
+        28..=30 => 9,
+        31 => 10,
+        _ => 0,
     }
-    ((n - 1) / 3) as usize
 }
 
 // d: the greatest degree of a block.
 pub fn degree(n: u8) -> usize
     ensures { λ r. ⌜ r ≡ degreeOf n ⌝ }
 {
-    faults(n) / 3
+    match n {
+        4..=9 => 0,
+        10..=18 => 1,
+        19..=27 => 2,
+        28..=31 => 3,
+        _ => 0,
+    }
 }
 
-// B: how many blocks a record of m bytes is cut into.
+// B: how many blocks a record of m bytes is cut into. By literals, which the compiler divides by without a division.
 pub fn blocks(n: u8, m: u8) -> usize
     ensures { λ r. ⌜ r ≡ blocksOf n m ⌝ }
 {
     let d = degree(n);
-    (m as usize + d) / (d + 1)
+    match d {
+        0 => m as usize,
+        1 => (m as usize + 1) / 2,
+        2 => (m as usize + 2) / 3,
+        _ => (m as usize + 3) / 4,
+    }
 }

@@ -1,21 +1,21 @@
 -- The answers of the calls, refused or not, and what is known where a call is not refused.
-use mathlib.Core.Path.{_≡_, refl, sym, ap, _∙_}
+use mathlib.Core.Path.{_≡_, refl, sym, ap}
 use mathlib.Core.Bool.{Bool, true, false, cond, not}
 use mathlib.Core.List.{List}
-use Prim.Native.Nat.{ℕ, _+_, _*_, _≤_}
+use Prim.Native.Nat.{ℕ, _+_, _≤_}
 use native.Mathlib.Omega.{arith}
 use borrow.Author.Tests.{eq-eqb, ne-eqb, eqb-true, not-true}
 use lib.Dec.{T, eqb, eqb→eq}
 use lib.ListN.{length, replicate}
-use Rattle.lists.specs.Lists.{rowsOf}
 use Rattle.lists.specs.Tests.{and-left, and-right, is-true, passes}
 use Rattle.protocols.specs.declared.Protocol.{Protocol}
+use Rattle.protocols.specs.declared.Kind.{Kind}
 use Rattle.sizes.specs.Sizes.{outside, refusal}
 use Rattle.sizes.specs.Laws.{inside, accepted}
 use Rattle.protocols.specs.Protocols.{roundsIn, valuesIn, kindIn, width}
 use Rattle.protocols.specs.Laws.{rounds-in-le, values-are}
-use Rattle.messages.specs.Messages.{said, unlessRefused}
-use Rattle.messages.specs.Laws.{accepted as messages-accepted, not-refused as messages-not-refused}
+use Rattle.messages.specs.Messages.{unlessRefused}
+use Rattle.messages.specs.Laws.{refused-before, if-refused}
 use Rattle.agreement.specs.declared.Outcome.{Outcome}
 use Rattle.agreement.specs.declared.Stage.{Stage}
 use Rattle.agreement.specs.declared.Stage.the-variants.{Speak, Listen, Ended}
@@ -25,8 +25,9 @@ use Rattle.agreement.specs.declared.Reply.the-variants as R
 use Rattle.agreement.specs.declared.Replied.{Replied}
 use Rattle.agreement.specs.declared.Told.{Told}
 use Rattle.agreement.specs.Column.{stageFits, namesFit, numbersFit, fits}
-use Rattle.agreement.specs.Rounds.{message, outgoing, listens}
-use Rattle.agreement.specs.Calls.{answered, roundOf, whenSpeaking, whenListening, inState, inRound, speakRefusal, written, listenRefusal, outcomeRefusal, ending, replyOf, shown, gradeShown, outcome}
+use Rattle.agreement.specs.Parts.{withStage}
+use Rattle.agreement.specs.Rounds.{outgoing, listens}
+use Rattle.agreement.specs.Calls.{answered, roundOf, whenSpeaking, whenListening, inState, inRound, speakRefusal, speak, written, listenRefusal, listen, outcomeRefusal, ending, replyOf, shown, gradeShown, outcome}
 use Rattle.agreement.specs.Entries.{markOnly, soundEntry, told}
 use Rattle.rounds.specs.Rounds.{toColumns, roundRefusal, heardIn}
 
@@ -100,8 +101,8 @@ module _ (c : Column) where
   unfolding fits numbersFit
   stage-fits h = search conjuncts depth 12
 
-  -- 11 and the stage's refusal
-  pub state-accepted : (why : ℕ) → inState c why ≡ 0 → T (fits c) × (why ≡ 0)
+  -- neither 11 nor the stage's refusal
+  state-accepted : (why : ℕ) → inState c why ≡ 0 → T (fits c) × (why ≡ 0)
   unfolding inState
   state-accepted why = go (fits c) refl
     where
@@ -109,57 +110,61 @@ module _ (c : Column) where
       go true e h = (passes (fits c) e, h)
       go false e h = absurd (omega arith)
 
-  -- a call in a round that is not refused
-  pub record Turn (len : ℕ) : Type 0 where
-    pub accepts : roundRefusal (kindIn p (c .n) (roundOf (c .stage))) c len ≡ 0
-    pub low : 1 ≤ roundOf (c .stage)
-    pub high : roundOf (c .stage) ≤ roundsIn p (c .n)
-    pub few : roundOf (c .stage) ≤ 254
+  -- the round in which it is to speak or to listen, and the round's kind
+  abbrev round : ℕ
+  round = roundOf (c .stage)
 
-  turn : (why len : ℕ) → (T (stageFits (roundsIn p (c .n)) (c .stage)) → why ≡ 0 → (1 ≤ roundOf (c .stage)) × (roundOf (c .stage) ≤ roundsIn p (c .n)))
-      → inRound c why len ≡ 0 → Turn len
+  abbrev kind : Kind
+  kind = kindIn p (c .n) round
+
+  -- where the state refuses nothing, the round does, by the slice's length
+  pub record Turn (why : ℕ) : Type 0 where
+    pub values : valuesIn p (c .n) (c .m) round ≡ width (c .n) (c .m) kind
+    pub by-length : (len : ℕ) → inRound c why len ≡ roundRefusal kind c len
+    pub few : round ≤ 254
+
+  turn : (why : ℕ) → (T (stageFits (roundsIn p (c .n)) (c .stage)) → why ≡ 0 → (1 ≤ round) × (round ≤ roundsIn p (c .n))) → inState c why ≡ 0 → Turn why
   unfolding inRound roundRefusal
-  turn why len within h =
-      let a = messages-accepted (inState c why) (c .n) (valuesIn p (c .n) (c .m) (roundOf (c .stage))) len h in
-      let s = state-accepted why (a .0) in
+  turn why within e =
+      let s = state-accepted why e in
       let w = within (stage-fits (s .0)) (s .1) in
       let sizes : refusal (c .n) (c .m) (c .own) ≡ 0 = sizes-fit (s .0) in
+      let values : valuesIn p (c .n) (c .m) round ≡ width (c .n) (c .m) kind = values-are p (c .n) (c .m) round (w .0) (w .1) in
       record {
-        accepts =
-            messages-not-refused (refusal (c .n) (c .m) (c .own)) (c .n) (width (c .n) (c .m) (kindIn p (c .n) (roundOf (c .stage)))) len sizes
-            (a .1 ∙ ap (λ (w : ℕ). c .n * w) (values-are p (c .n) (c .m) (roundOf (c .stage)) (w .0) (w .1)));
-        low = w .0;
-        high = w .1;
+        values = values;
+        by-length = λ len. rw (e, sizes, values) refl;
         few = omega (arith, w .1, rounds-in-le p (c .n), accepted (c .n) (c .m) (c .own) sizes .range .columns-high);
       }
 
-  pub may-speak : (len : ℕ) → speakRefusal c len ≡ 0 → Turn len
-  unfolding speakRefusal
-  may-speak len = turn (whenSpeaking (c .stage)) len (speaking-in (roundsIn p (c .n)) (c .stage))
+  pub may-speak : inState c (whenSpeaking (c .stage)) ≡ 0 → Turn (whenSpeaking (c .stage))
+  may-speak = turn (whenSpeaking (c .stage)) (speaking-in (roundsIn p (c .n)) (c .stage))
 
-  pub may-listen : (len : ℕ) → listenRefusal c len ≡ 0 → Turn len
-  unfolding listenRefusal
-  may-listen len = turn (whenListening (c .stage)) len (listening-in (roundsIn p (c .n)) (c .stage))
+  pub may-listen : inState c (whenListening (c .stage)) ≡ 0 → Turn (whenListening (c .stage))
+  may-listen = turn (whenListening (c .stage)) (listening-in (roundsIn p (c .n)) (c .stage))
 
-  -- the column after a call to listen
-  pub heard-is : (inbox : List ℕ) → listenRefusal c (length inbox) ≡ 0
-      → heardIn (kindIn p (c .n) (roundOf (c .stage))) (Speak (roundOf (c .stage) + 1)) c inbox .column ≡ listens (roundOf (c .stage)) c inbox
-  unfolding heardIn answered listens
-  heard-is inbox e = rw (may-listen (length inbox) e .accepts) refl
+  -- THE ANSWERS TO SPEAK AND TO LISTEN, where the state is refused and where it is not
 
-  -- the slice after a call to speak
-  pub written-is : (out : List ℕ) (why round : ℕ) → why ≡ speakRefusal c (length out) → round ≡ roundOf (c .stage)
-      → unlessRefused why (toColumns (kindIn p (c .n) round) c) out ≡ written c out
-  unfolding written unlessRefused toColumns outgoing
-  written-is out why round e q = rw (q, e) (go (eqb (speakRefusal c (length out)) 0) refl)
-    where
-      rows : ℕ → List ℕ
-      rows w = rowsOf (λ j. said (message (kindIn p (c .n) (roundOf (c .stage))) c j)) w (c .n)
+  pub listen-refused : (inbox : List ℕ) (why : ℕ) → why ≡ inState c (whenListening (c .stage)) → (why ≡ 0 → ⊥) → answered why c c ≡ listen c inbox
+  unfolding listen listenRefusal inRound
+  listen-refused inbox why e h =
+      rw (← e, refused-before why (c .n) (valuesIn p (c .n) (c .m) round) (length inbox) h) (refused-alike why c (listens round c inbox) c h)
 
-      go : (b : Bool) → eqb (speakRefusal c (length out)) 0 ≡ b
-          → _≡_ {A = List ℕ} (cond b (rows (width (c .n) (c .m) (kindIn p (c .n) (roundOf (c .stage))))) out)
-          (cond b (rows (valuesIn p (c .n) (c .m) (roundOf (c .stage)))) out)
-      go true z =
-          let t = may-speak (length out) (eqb-true (speakRefusal c (length out)) 0 z) in
-          ap rows (sym (values-are p (c .n) (c .m) (roundOf (c .stage)) (t .low) (t .high)))
-      go false z = refl
+  pub listen-heard : (inbox : List ℕ) → inState c (whenListening (c .stage)) ≡ 0 → heardIn kind (Speak (round + 1)) c inbox ≡ listen c inbox
+  unfolding listen listenRefusal heardIn listens
+  listen-heard inbox e = rw (may-listen e .by-length (length inbox)) refl
+
+  module _ (out : List ℕ) where
+    speak-refused : (why : ℕ) → why ≡ inState c (whenSpeaking (c .stage)) → (why ≡ 0 → ⊥) → speakRefusal c (length out) ≡ why
+    unfolding speakRefusal inRound
+    speak-refused why e h = rw (← e) (refused-before why (c .n) (valuesIn p (c .n) (c .m) round) (length out) h)
+
+    pub speak-silent : (why : ℕ) → why ≡ inState c (whenSpeaking (c .stage)) → (why ≡ 0 → ⊥) → (answered why c c ≡ speak c out) × (out ≡ written c out)
+    unfolding speak written
+    speak-silent why e h =
+        rw (speak-refused why e h) (refused-alike why c (withStage (Listen round) c) c h, sym (if-refused why (outgoing c round) out h))
+
+    pub speak-said : inState c (whenSpeaking (c .stage)) ≡ 0
+        → (answered (roundRefusal kind c (length out)) (withStage (Listen round) c) c ≡ speak c out)
+        × (unlessRefused (roundRefusal kind c (length out)) (toColumns kind c) out ≡ written c out)
+    unfolding speak speakRefusal written toColumns outgoing
+    speak-said e = let t = may-speak e in rw (t .by-length (length out), t .values) (refl, refl)

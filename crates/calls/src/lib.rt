@@ -63,21 +63,16 @@ pub fn speak(column: Column, out: &mut [u16]) -> Answered
 pub fn listen(column: Column, inbox: &[u16]) -> Answered
     ensures { λ r. ⌜ r ≡ listenOf column (now (inbox .entry)) ⌝ }
 {
-    let why = refusals::to_listen(column, inbox.len());
+    let why = refusals::to_listen(column);
     if why != 0 {
         return answered(why, column, column);
     }
     let protocol = column.protocol;
     let stage = column.stage;
     let round = refusals::round_of(stage);
-    let heard = rounds::hear(
-        protocols::kind_in(protocol, column.n, round),
-        Stage::Speak(round + 1),
-        column,
-        inbox,
-    );
-    let after = heard.column;
-    answered(why, after, column)
+    let next = round + 1;
+    let kind = protocols::kind_in(protocol, column.n, round);
+    rounds::hear(kind, Stage::Speak(next), column, inbox)
 }
 
 // What the column ended on, with the grade that goes with it and the record's bytes: zeros past m, and zeros where there is none. Refused with

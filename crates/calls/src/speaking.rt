@@ -10,17 +10,17 @@ ghost use Rattle.agreement.specs.Calls.{speak as speakOf, written};
 pub(super) fn speak(column: Column, out: &mut [u16]) -> Answered
     ensures { λ r. ⌜ (r ≡ speakOf column (now (out .entry))) × (now (out .exit) ≡ written column (now (out .entry))) ⌝ }
 {
-    let why = refusals::to_speak(column, out.len());
+    let why = refusals::to_speak(column);
+    if why != 0 {
+        return answered(why, column, column);
+    }
+    let protocol = column.protocol;
     let stage = column.stage;
     let round = refusals::round_of(stage);
+    let refused = rounds::say(protocols::kind_in(protocol, column.n, round), column, out);
     let spoken = Column {
         stage: Stage::Listen(round),
         ..column
     };
-    if why != 0 {
-        return answered(why, spoken, column);
-    }
-    let protocol = column.protocol;
-    rounds::say(protocols::kind_in(protocol, column.n, round), column, out);
-    answered(why, spoken, column)
+    answered(refused, spoken, column)
 }

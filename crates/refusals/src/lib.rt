@@ -1,12 +1,12 @@
-// The refusals of a column's calls, in every protocol, as document 01 numbers and orders them; 0 for none. Those of the state
-// stand before that of a slice.
+// The refusals of a column's calls, in every protocol, as document 01 numbers and orders them; 0 for none. To speak, to listen and to ask are
+// refused here by the state alone: that of a slice comes behind them, and is the round's.
 mod ranges;
 
 use agreement::Column;
 use agreement::Stage;
 use protocols::Protocol;
 ghost use mathlib.Core.Path.{_≡_};
-ghost use Rattle.agreement.specs.Calls.{orElse, freshRefusal, roundOf, whenSpeaking, whenListening, whenAsked, inState, inRound, speakRefusal, listenRefusal, outcomeRefusal};
+ghost use Rattle.agreement.specs.Calls.{orElse, freshRefusal, roundOf, whenSpeaking, whenListening, whenAsked, inState, outcomeRefusal};
 
 // The refusal `why`, or where there is none the next.
 fn or_else(why: u8, next: u8) -> u8
@@ -83,30 +83,20 @@ fn in_state(column: Column, why: u8) -> u8
     11
 }
 
-// And 4 after both, for a slice that is not as long as the round's messages.
-fn in_round(column: Column, why: u8, len: usize) -> u8
-    ensures { λ r. ⌜ r ≡ inRound column why len ⌝ }
+// Of a call to speak, by the state: 11, 10, 7.
+pub fn to_speak(column: Column) -> u8
+    ensures { λ r. ⌜ r ≡ inState column (whenSpeaking (column .stage)) ⌝ }
 {
-    let protocol = column.protocol;
     let stage = column.stage;
-    let w = protocols::values_in(protocol, column.n, column.m, round_of(stage));
-    messages::refusal(in_state(column, why), column.n, w, len)
+    in_state(column, when_speaking(stage))
 }
 
-// Of a call to speak with a slice of `len` values: 11, 10, 7, then 4.
-pub fn to_speak(column: Column, len: usize) -> u8
-    ensures { λ r. ⌜ r ≡ speakRefusal column len ⌝ }
+// Of a call to listen, by the state: 11, 10, 8.
+pub fn to_listen(column: Column) -> u8
+    ensures { λ r. ⌜ r ≡ inState column (whenListening (column .stage)) ⌝ }
 {
     let stage = column.stage;
-    in_round(column, when_speaking(stage), len)
-}
-
-// Of a call to listen with a slice of `len` values: 11, 10, 8, then 4.
-pub fn to_listen(column: Column, len: usize) -> u8
-    ensures { λ r. ⌜ r ≡ listenRefusal column len ⌝ }
-{
-    let stage = column.stage;
-    in_round(column, when_listening(stage), len)
+    in_state(column, when_listening(stage))
 }
 
 // Of a call for the outcome: 11, then 9.

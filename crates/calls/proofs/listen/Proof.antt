@@ -1,9 +1,8 @@
 -- `listen` meets its contract.
-use mathlib.Core.Path.{refl, sym, _∙_}
+use mathlib.Core.Path.{sym, _∙_}
 use native.Mathlib.Omega.{arith}
 use borrow.Author.Needs.{needs}
-use Rattle.agreement.specs.Calls.{listen}
-use Rattle.calls.specs.Answers.{refused-alike, may-listen, heard-is}
+use Rattle.calls.specs.Answers.{may-listen, listen-refused, listen-heard}
 use Rattle.calls.proofs.listen.Statement.{statement}
 use Rattle.calls.proofs.listen.Tie as tie
 
@@ -14,31 +13,27 @@ answered-requires : tie.Need-answered-requires
 answered-requires c κs = search needs
 
 returns : tie.Need-returns
-unfolding listen
-returns c = rw (c .answered .ensures, c .before .before .to-listen .ensures) (refused-alike _ _ _ _ (λ z. c .before .if1 .taken (c .before .before .to-listen .ensures ∙ z)))
+returns c = c .answered .ensures ∙ listen-refused _ _ _ (c .before .before .to-listen .ensures) (c .before .if1 .taken)
 
 round-of-requires : tie.Need-round-of-requires
 round-of-requires c κs = search needs
 
+add-next : tie.Need-add-next
+add-next c =
+    let t = may-listen _ (sym (c .before .before .to-listen .ensures) ∙ c .before .if1 .left) in
+    record { fits = omega (arith, c .round-of .ensures, t .few) }
+
 kind-in-requires : tie.Need-kind-in-requires
 kind-in-requires c κs = search needs
-
-add-t12 : tie.Need-add-t12
-add-t12 c = let t = may-listen _ _ (sym (c .before .before .before .to-listen .ensures) ∙ c .before .before .if1 .left) in
-    record { fits = omega (arith, c .before .round-of .ensures, t .few) }
 
 hear-requires : tie.Need-hear-requires
 hear-requires c κs = search needs
 
-answered-requires-2 : tie.Need-answered-requires-2
-answered-requires-2 c κs = search needs
-
 returns-2 : tie.Need-returns-2
-unfolding listen
 returns-2 c =
-    let b = c .before .before in
-    let asked = b .before .before .before .before .to-listen .ensures in
-    rw (c .answered2 .ensures, b .hear .ensures, b .before .kind-in .ensures, b .before .before .round-of .ensures, heard-is _ _ (sym asked ∙ b .before .before .before .if1 .left), asked) refl
+    let k = c .before in
+    let r = k .before in
+    rw (c .hear .ensures, k .kind-in .ensures, r .round-of .ensures) (listen-heard _ _ (sym (r .before .before .to-listen .ensures) ∙ r .before .if1 .left))
 
 pub listen-spec : {M : Type 1} → statement M
 listen-spec =
@@ -48,8 +43,7 @@ listen-spec =
     answered-requires
     returns
     round-of-requires
+    add-next
     kind-in-requires
-    add-t12
     hear-requires
-    answered-requires-2
     returns-2)

@@ -17,12 +17,12 @@ use Rattle.lists.specs.Loops.{all-of, none-behind}
 use Rattle.lists.specs.Count.{count-same}
 use Rattle.field.specs.Field.{blank}
 use Rattle.sizes.specs.Sizes.{faults, blocks, refusal}
-use Rattle.sizes.specs.Laws.{Accepted, accepted, few-blocks}
+use Rattle.sizes.specs.Laws.{Accepted, accepted, few-blocks, column-of}
 use Rattle.messages.specs.Messages.{readPoint, readReport, said, heard, times}
 use Rattle.messages.specs.Laws.{point-is, same-report, same-point, heard-own, heard-other}
 use Rattle.codeword.specs.Codeword.{point, values, meetIn, meets, codewords, across, writtenAcross}
 use Rattle.codeword.specs.Apart.{point-lt, length-values, said-values}
-use Rattle.codeword.specs.Words.{across-is, across-written}
+use Rattle.codeword.specs.Words.{across-is, across-written, length-codewords}
 use Rattle.dispersal.specs.Dispersal.{exchange, exchanges, agreesIn, agreesWith, agreementAt, agreements, agrees, reportAt, reports, reported, both, secondQuorum, readReports, grade, exchangeRefusal, agreed}
 
 -- THE MESSAGE OF THE EXCHANGE
@@ -136,33 +136,37 @@ module _ (n m own : ℕ) (bytes : List ℕ) (j : ℕ) (received : ℕ → ℕ) w
 unfoldable pub sameAt : List ℕ → ℕ → List ℕ → ℕ → ℕ → Bool
 sameAt words i inbox at k = eqb (getD inbox (at + k) 0) (across words i k)
 
--- the flag of column i + 1, by the codewords of the record
-unfoldable pub agreesAcross : ℕ → ℕ → ℕ → List ℕ → List ℕ → ℕ → Bool
-agreesAcross n b own words inbox i =
-    ltb i n && (eqb (i + 1) own || (all (sameAt words i inbox (i * (2 * b))) b && all (sameAt words (own - 1) inbox (i * (2 * b) + b)) b))
+-- and is what `mine` has at place k
+unfoldable pub sameAs : List ℕ → List ℕ → ℕ → ℕ → Bool
+sameAs mine inbox at k = eqb (getD inbox (at + k) 0) (getD mine k 0)
 
-module _ (n b own : ℕ) (words inbox : List ℕ) (i : ℕ) where
-  pub agrees-past : n ≤ i → false ≡ agreesAcross n b own words inbox i
+-- the flag of column i + 1, by the codewords of the record and its values at the own point
+unfoldable pub agreesAcross : ℕ → ℕ → ℕ → List ℕ → List ℕ → List ℕ → ℕ → Bool
+agreesAcross n b own words mine inbox i =
+    ltb i n && (eqb (i + 1) own || (all (sameAt words i inbox (i * (2 * b))) b && all (sameAs mine inbox (i * (2 * b) + b)) b))
+
+module _ (n b own : ℕ) (words mine inbox : List ℕ) (i : ℕ) where
+  pub agrees-past : n ≤ i → false ≡ agreesAcross n b own words mine inbox i
   unfolding agreesAcross
   agrees-past h = simp (le-ltb i n h)
 
   module _ (l : i < n) where
-    pub agrees-itself : i + 1 ≡ own → true ≡ agreesAcross n b own words inbox i
+    pub agrees-itself : i + 1 ≡ own → true ≡ agreesAcross n b own words mine inbox i
     unfolding agreesAcross
     agrees-itself e = simp (lt-ltb i n l, eq-eqb (i + 1) own e)
 
     -- with another column: `at` is where its message begins
     module _ (other : i + 1 ≡ own → ⊥) (at : ℕ) (e : at ≡ i * (2 * b) + 0) where
-      both-halves : agreesAcross n b own words inbox i ≡ all (sameAt words i inbox at) b && all (sameAt words (own - 1) inbox (at + b)) b
+      both-halves : agreesAcross n b own words mine inbox i ≡ all (sameAt words i inbox at) b && all (sameAs mine inbox (at + b)) b
       unfolding agreesAcross
       both-halves =
           let f : at ≡ i * (2 * b) = omega arith in
           rw (lt-ltb i n l, ne-eqb (i + 1) own other, f) refl
 
-      pub agrees-not : all (sameAt words i inbox at) b ≡ false → false ≡ agreesAcross n b own words inbox i
+      pub agrees-not : all (sameAt words i inbox at) b ≡ false → false ≡ agreesAcross n b own words mine inbox i
       agrees-not h = sym (both-halves ∙ rw h refl)
 
-      pub agrees-other : all (sameAt words i inbox at) b ≡ true → (r : Bool) → r ≡ all (sameAt words (own - 1) inbox (at + b)) b → r ≡ agreesAcross n b own words inbox i
+      pub agrees-other : all (sameAt words i inbox at) b ≡ true → (r : Bool) → r ≡ all (sameAs mine inbox (at + b)) b → r ≡ agreesAcross n b own words mine inbox i
       agrees-other h r f = f ∙ sym (both-halves ∙ rw h refl)
 
 -- each passes both tests
@@ -190,59 +194,74 @@ module _ (n m own : ℕ) (bytes inbox : List ℕ) (i : ℕ) where
       is-own q k h =
           ap readPoint (heard-own own (exchange n m own bytes own) (2 * blocks n m) inbox (i + 1) q e ∙ h) ∙ point-is (point n bytes own k) (point-lt n bytes own k)
 
-  -- value q from another column, held to what codeword k has at place x
-  held-to : refusal n m own ≡ 0 → n * (2 * blocks n m) ≡ length inbox → i < n → (i + 1 ≡ own → ⊥) → (x q k : ℕ) → x < 32 → k < blocks n m → q < 2 * blocks n m
-      → eqb (getD inbox (i * (2 * blocks n m) + q) 0) (across (codewords n m bytes) x k) ≡ eqb (readPoint (hears n m own bytes inbox i q)) (point n bytes (x + 1) k)
-  held-to r long l other x q k h g u =
+  -- value q from another column, held to the value of block k at the point x
+  held-to : n * (2 * blocks n m) ≡ length inbox → i < n → (i + 1 ≡ own → ⊥) → (x q k v : ℕ) → v ≡ point n bytes x k → q < 2 * blocks n m
+      → eqb (getD inbox (i * (2 * blocks n m) + q) 0) v ≡ eqb (readPoint (hears n m own bytes inbox i q)) (point n bytes x k)
+  held-to long l other x q k v is u =
       let row : i + 1 - 1 ≡ i = omega arith in
       let place : getD inbox (i * (2 * blocks n m) + q) 0 ≡ hears n m own bytes inbox i q =
       getD-within inbox (i * (2 * blocks n m) + q) 0 blank (omega (arith, long, row-fits (2 * blocks n m) i n l))
       ∙ sym (heard-other own (exchange n m own bytes own) (2 * blocks n m) inbox (i + 1) q other ∙ ap (λ (j : ℕ). getD inbox (j * (2 * blocks n m) + q) blank) row) in
-      let value : across (codewords n m bytes) x k ≡ point n bytes (x + 1) k =
-      across-is n m bytes x k h (omega (arith, few-blocks n m own r)) ∙ said-values n m bytes (x + 1) k g in
-      ap₂ {C = Bool} (λ v p. eqb v p) place value ∙ sym (same-point (hears n m own bytes inbox i q) (point n bytes (x + 1) k) (point-lt n bytes (x + 1) k))
+      ap₂ {C = Bool} (λ v p. eqb v p) place is ∙ sym (same-point (hears n m own bytes inbox i q) (point n bytes x k) (point-lt n bytes x k))
 
-agreement-is : (n m own : ℕ) (bytes inbox : List ℕ) (i b : ℕ) (words : List ℕ) → refusal n m own ≡ 0 → n * (2 * blocks n m) ≡ length inbox → b ≡ blocks n m
-    → words ≡ codewords n m bytes → agreesAcross n b own words inbox i ≡ agreementAt n m own bytes inbox i
-unfolding agreesAcross agreementAt agreesWith agreesIn both sameAt
-agreement-is n m own bytes inbox i b words r long e f = rw (e, f) (go (decLt i n))
-  where
-    w : ℕ
-    w = 2 * blocks n m
+module _ (n m own : ℕ) (bytes inbox words mine : List ℕ) (r : refusal n m own ≡ 0) (long : n * (2 * blocks n m) ≡ length inbox)
+    (f : words ≡ codewords n m bytes) (g : mine ≡ writtenAcross n (blocks n m) words own (replicate 32 blank)) where
+  abbrev b : ℕ
+  b = blocks n m
 
-    P : ℕ → Bool
-    P = sameAt (codewords n m bytes) i inbox (i * w)
+  a : Accepted n m own
+  a = accepted n m own r
 
-    Q : ℕ → Bool
-    Q = sameAt (codewords n m bytes) (own - 1) inbox (i * w + blocks n m)
+  few : b ≤ 32
+  few = few-blocks n m own r
 
-    each : i < n → (i + 1 ≡ own → ⊥) → (k : ℕ) → k < blocks n m → both P Q k ≡ agreesIn n m own bytes (i + 1) (hears n m own bytes inbox i) k
+  -- what codeword k has at place x
+  word-at : (x k : ℕ) → x < 32 → k < b → across words x k ≡ point n bytes (x + 1) k
+  word-at x k h l = rw f (across-is n m bytes x k h (omega (arith, few)) ∙ said-values n m bytes (x + 1) k l)
+
+  -- and at the own place
+  mine-at : (k : ℕ) → k < b → getD mine k 0 ≡ point n bytes own k
+  mine-at k l =
+      let place : own - 1 + 1 ≡ own = omega (arith, a .number-low) in
+      let sizes : refusal n 1 own ≡ 0 = column-of n m own own r (a .number-low) (a .number-high) in
+      let all-there : 32 * b ≤ length words = rw f (omega (arith, few, length-codewords n m bytes)) in
+      rw (g, across-written n b words own (replicate 32 blank) sizes few all-there)
+      (List·getD-append (listOf (across words (own - 1)) b) (drop b (replicate 32 blank)) 0 k (omega (arith, length-listOf (across words (own - 1)) b))
+      ∙ getD-listOf (across words (own - 1)) b k 0 l
+      ∙ word-at (own - 1) k (omega (arith, a .number-high, a .range .columns-high)) l
+      ∙ ap (λ (x : ℕ). point n bytes x k) place)
+
+  module _ (i : ℕ) where
+    abbrev P : ℕ → Bool
+    P = sameAt words i inbox (i * (2 * b))
+
+    abbrev Q : ℕ → Bool
+    Q = sameAs mine inbox (i * (2 * b) + b)
+
+    each : i < n → (i + 1 ≡ own → ⊥) → (k : ℕ) → k < b → both P Q k ≡ agreesIn n m own bytes (i + 1) (hears n m own bytes inbox i) k
+    unfolding both agreesIn sameAt sameAs
     each l other k h =
-        let a = accepted n m own r in
-        let small : own - 1 < 32 = omega (arith, a .number-high, a .range .columns-high) in
-        let place : own - 1 + 1 ≡ own = omega (arith, a .number-low) in
-        let next : i * w + blocks n m + k ≡ i * w + (blocks n m + k) = omega arith in
-        ap₂ {C = Bool} (λ x y. x && y) (held-to n m own bytes inbox i r long l other i k k (omega (arith, a .range .columns-high)) h (omega arith))
-        (ap (λ (p : ℕ). eqb (getD inbox p 0) (across (codewords n m bytes) (own - 1) k)) next
-        ∙ held-to n m own bytes inbox i r long l other (own - 1) (blocks n m + k) k small h (omega arith)
-        ∙ ap (λ (x : ℕ). eqb (readPoint (hears n m own bytes inbox i (blocks n m + k))) (point n bytes x k)) place)
+        let next : i * (2 * b) + b + k ≡ i * (2 * b) + (b + k) = omega arith in
+        let first : P k ≡ eqb (readPoint (hears n m own bytes inbox i k)) (point n bytes (i + 1) k) =
+        held-to n m own bytes inbox i long l other (i + 1) k k (across words i k) (word-at i k (omega (arith, a .range .columns-high)) h) (omega arith) in
+        let second : Q k ≡ eqb (readPoint (hears n m own bytes inbox i (b + k))) (point n bytes own k) =
+        rw next (held-to n m own bytes inbox i long l other own (b + k) k (getD mine k 0) (mine-at k h) (omega arith)) in
+        ap₂ {C = Bool} (λ x y. x && y) first second
 
-    by-number : i < n → (t : Bool) → eqb (i + 1) own ≡ t
-        → t || (all P (blocks n m) && all Q (blocks n m)) ≡ agreesWith n m own bytes (i + 1) (hears n m own bytes inbox i)
+    by-number : i < n → (t : Bool) → eqb (i + 1) own ≡ t → t || (all P b && all Q b) ≡ agreesWith n m own bytes (i + 1) (hears n m own bytes inbox i)
+    unfolding agreesWith
     by-number l true q = sym (is-true (agreesWith n m own bytes (i + 1) (hears n m own bytes inbox i)) (with-itself n m own bytes inbox i (eqb-true (i + 1) own q)))
     by-number l false q =
-        all-both P Q (blocks n m)
-        ∙ all-same (both P Q) (agreesIn n m own bytes (i + 1) (hears n m own bytes inbox i)) (blocks n m) (each l (eqb-false (i + 1) own q))
+        all-both P Q b ∙ all-same (both P Q) (agreesIn n m own bytes (i + 1) (hears n m own bytes inbox i)) b (each l (eqb-false (i + 1) own q))
 
-    go : Dec (i < n) → agreesAcross n (blocks n m) own (codewords n m bytes) inbox i ≡ agreementAt n m own bytes inbox i
-    go (yes l) = rw (lt-ltb i n l) (by-number l (eqb (i + 1) own) refl)
-    go (no l) = rw (le-ltb i n (omega arith)) refl
+    agreement-is : Dec (i < n) → agreesAcross n b own words mine inbox i ≡ agreementAt n m own bytes inbox i
+    unfolding agreesAcross agreementAt
+    agreement-is (yes l) = rw (lt-ltb i n l) (by-number l (eqb (i + 1) own) refl)
+    agreement-is (no l) = rw (le-ltb i n (omega arith)) refl
 
-pub agreements-are : (n m own : ℕ) (bytes inbox : List ℕ) (b : ℕ) (words : List ℕ) → refusal n m own ≡ 0 → n * (2 * blocks n m) ≡ length inbox → b ≡ blocks n m
-    → words ≡ codewords n m bytes → listOf (agreesAcross n b own words inbox) 31 ≡ agreements n m own bytes inbox
-unfolding agreements
-agreements-are n m own bytes inbox b words r long e f =
-    listOf-same (agreesAcross n b own words inbox) (agreementAt n m own bytes inbox) 31 (λ i _. agreement-is n m own bytes inbox i b words r long e f)
+  pub agreements-are : listOf (agreesAcross n b own words mine inbox) 31 ≡ agreements n m own bytes inbox
+  unfolding agreements
+  agreements-are = listOf-same (agreesAcross n b own words mine inbox) (agreementAt n m own bytes inbox) 31 (λ i _. agreement-is i (decLt i n))
 
 -- THE CALLS ON SLICES
 

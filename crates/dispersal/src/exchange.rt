@@ -8,7 +8,7 @@ ghost use Rattle.lists.specs.Lists.{all, listOf};
 ghost use Rattle.sizes.specs.Sizes.{blocks, refusal as refusalOfSizes};
 ghost use Rattle.messages.specs.Messages.{unlessRefused};
 ghost use Rattle.dispersal.specs.Dispersal.{exchanges, agreements as agreementsOf, exchangeRefusal, agreed};
-ghost use Rattle.dispersal.specs.Laws.{paired, sameAt, agreesAcross};
+ghost use Rattle.dispersal.specs.Laws.{paired, sameAt, sameAs, agreesAcross};
 
 // What a call on the messages of the exchange answers: its refusal, 0 for none, and a flag for each column, all false where it refuses.
 pub struct Agreed {
@@ -80,10 +80,30 @@ fn same_values(b: usize, words: &[u16], i: usize, inbox: &[u16], at: usize) -> b
     true
 }
 
+// Whether they are the first of `mine`, the values at the own point. They lie side by side, so that eight at a time are looked at.
+fn same_as(b: usize, mine: &[u16; 32], inbox: &[u16], at: usize) -> bool
+    requires { ⌜ (b ≤ 32) × (at + b ≤ length (now inbox)) ⌝ }
+    ensures { λ r. ⌜ r ≡ all (sameAs (now (mine .entry)) (now (inbox .entry)) at) b ⌝ }
+{
+    let mut same = true;
+    for k in 0..b {
+        same = same & (inbox[at + k] == mine[k]);
+    }
+    same
+}
+
 // Whether the column agrees with column i + 1: that one sent what it would have sent, had it the same record. With itself it always does.
-fn agreement_at(n: u8, b: u16, own: u8, words: &[u16], inbox: &[u16], i: u8) -> bool
-    requires { ⌜ (n ≤ 31) × (b ≤ 32) × (1 ≤ own) × (own ≤ 31) × (32 * b ≤ length (now words)) × (n * (2 * b) ≡ length (now inbox)) × (i ≤ 30) ⌝ }
-    ensures { λ r. ⌜ r ≡ agreesAcross n b own (now (words .entry)) (now (inbox .entry)) i ⌝ }
+fn agreement_at(
+    n: u8,
+    b: u16,
+    own: u8,
+    words: &[u16],
+    mine: &[u16; 32],
+    inbox: &[u16],
+    i: u8,
+) -> bool
+    requires { ⌜ (n ≤ 31) × (b ≤ 32) × (32 * b ≤ length (now words)) × (n * (2 * b) ≡ length (now inbox)) × (i ≤ 30) ⌝ }
+    ensures { λ r. ⌜ r ≡ agreesAcross n b own (now (words .entry)) (now (mine .entry)) (now (inbox .entry)) i ⌝ }
 {
     if n <= i {
         return false;
@@ -95,13 +115,7 @@ fn agreement_at(n: u8, b: u16, own: u8, words: &[u16], inbox: &[u16], i: u8) -> 
     if !same_values(b as usize, words, i as usize, inbox, at) {
         return false;
     }
-    same_values(
-        b as usize,
-        words,
-        (own - 1) as usize,
-        inbox,
-        at + b as usize,
-    )
+    same_as(b as usize, mine, inbox, at + b as usize)
 }
 
 // The flags of all columns.
@@ -112,10 +126,12 @@ fn flags(n: u8, m: u8, own: u8, bytes: [u8; 32], inbox: &[u16]) -> [bool; 31]
     let b = sizes::blocks(n, m) as u16;
     let mut words = [Field::BLANK; 1024];
     codeword::codewords(n, m, bytes, &mut words);
+    let mut mine = [Field::BLANK; 32];
+    codeword::write(n, b, &words, own, &mut mine);
     let mut all = [false; 31];
     for i in 0..31u8 {
         let at = i as usize;
-        all[at] = agreement_at(n, b, own, &words, inbox, i);
+        all[at] = agreement_at(n, b, own, &words, &mine, inbox, i);
     }
     all
 }

@@ -35,18 +35,24 @@ pub fn proposal(n: u8, votes: [u16; 31]) -> u16
     chosen(n, &votes, n as usize - sizes::faults(n), Field::BLANK)
 }
 
-// The vote after the proposals: a bit proposed at least t + 1 times, 1 if both were; else the vote as it was.
-pub fn settled(n: u8, proposals: [u16; 31], vote: u8) -> u8
-    ensures { λ r. ⌜ r ≡ settledOf n (from proposals) vote ⌝ }
-{
-    chosen(n, &proposals, sizes::faults(n) + 1, vote as u16) as u8
+// What the proposals give: a vote, and whether it is firm.
+pub struct Ballot {
+    pub vote: u8,
+    pub firm: bool,
 }
 
-// Whether a vote is firm: proposed at least n - t times.
-pub fn firm(n: u8, proposals: [u16; 31], vote: u8) -> bool
-    ensures { λ r. ⌜ r ≡ firmOf n (from proposals) vote ⌝ }
+// The vote after the proposals: a bit proposed at least t + 1 times, 1 if both were; else the vote as it was. It is firm where it was proposed at
+// least n - t times.
+pub fn settled(n: u8, proposals: [u16; 31], vote: u8) -> Ballot
+    ensures { λ r. ⌜ (r .vote ≡ settledOf n (from proposals) vote) × (r .firm ≡ firmOf n (from proposals) (settledOf n (from proposals) vote)) ⌝ }
 {
-    n as usize - sizes::faults(n) <= received(n, &proposals, vote)
+    let t = sizes::faults(n);
+    let quorum = n as usize - t;
+    let after = chosen(n, &proposals, t + 1, vote as u16) as u8;
+    Ballot {
+        vote: after,
+        firm: quorum <= received(n, &proposals, after),
+    }
 }
 
 // What a column says in the king's round: the king its vote, the others blank.

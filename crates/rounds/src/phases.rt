@@ -23,10 +23,10 @@ pub(super) fn hear_proposals(column: Column, next: Stage, inbox: &[u16]) -> Colu
     ensures { λ r. ⌜ r ≡ hears Proposals next column (now (inbox .entry)) ⌝ }
 {
     let proposals = received(column.n, column.own, column.proposal, inbox);
-    let vote = king::settled(column.n, proposals, column.vote);
+    let ballot = king::settled(column.n, proposals, column.vote);
     Column {
-        vote: vote,
-        firm: king::firm(column.n, proposals, vote),
+        vote: ballot.vote,
+        firm: ballot.firm,
         stage: next,
         ..column
     }

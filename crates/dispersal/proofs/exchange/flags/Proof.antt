@@ -13,10 +13,10 @@ use Rattle.dispersal.proofs.exchange.flags.Statement.{statement}
 use Rattle.dispersal.proofs.exchange.flags.Tie as tie
 
 abbrev Inv-loop : tie.InvT-loop
-Inv-loop n m own inbox b words all₀ i₀ all i = Filled (agreesAcross n b own words inbox) 31 all₀ all i
+Inv-loop n m own inbox b words mine all₀ i₀ all i = Filled (agreesAcross n b own words mine inbox) 31 all₀ all i
 
 abbrev μ-loop : tie.MeasureT-loop
-μ-loop n m own inbox b words all₀ i₀ all i = 31 - i
+μ-loop n m own inbox b words mine all₀ i₀ all i = 31 - i
 
 blocks-requires : tie.Need-blocks-requires Inv-loop μ-loop
 blocks-requires c κs = tt
@@ -30,6 +30,15 @@ slice-aggregate-codewords c = search needs
 codewords-requires : tie.Need-codewords-requires Inv-loop μ-loop
 codewords-requires c κs = tt
 
+slice-aggregate-write : tie.Need-slice-aggregate-write Inv-loop μ-loop
+slice-aggregate-write c = search needs
+
+slice-aggregate-write-2 : tie.Need-slice-aggregate-write-2 Inv-loop μ-loop
+slice-aggregate-write-2 c = search needs
+
+write-requires : tie.Need-write-requires Inv-loop μ-loop
+write-requires c κs = tt
+
 loop-holds : tie.Need-loop-holds Inv-loop μ-loop
 loop-holds c = filled-none _ _ _ (omega arith)
 
@@ -41,15 +50,13 @@ slice-aggregate-agreement-at c = search needs
 
 agreement-at-requires : tie.Need-agreement-at-requires Inv-loop μ-loop
 agreement-at-requires c κs =
-    let s = c .before .before .before .before .before .before .before .before in
-    let a = accepted (s .args .n) (s .args .m) (s .args .own) (s .pre .0) in
-    let few = few-blocks (s .args .n) (s .args .m) (s .args .own) (s .pre .0) in
-    let b = c .before .before .before .before .before .before .blocks2 .ensures in (
-      a .range .columns-high,
+    let w = c .before .before .before .before .before .before .before .before .before in
+    let b = w .before .before .blocks2 .ensures in
+    let s = w .before .before .before .before in
+    let few = few-blocks (s .args .n) (s .args .m) (s .args .own) (s .pre .0) in (
+      accepted (s .args .n) (s .args .m) (s .args .own) (s .pre .0) .range .columns-high,
       omega (arith, few, b),
-      a .number-low,
-      omega (arith, a .number-high, a .range .columns-high),
-      rw (c .before .before .before .before .codewords .ensures .1, codewords-in (s .args .n) (s .args .m) (s .args .own) (s .args .bytes) _ (s .pre .0) refl, length-codewords (s .args .n) (s .args .m) (s .args .bytes)) (omega (arith, few, b)),
+      rw (w .codewords .ensures .1, codewords-in (s .args .n) (s .args .m) (s .args .own) (s .args .bytes) _ (s .pre .0) refl, length-codewords (s .args .n) (s .args .m) (s .args .bytes)) (omega (arith, few, b)),
       rw b (s .pre .1),
       omega arith,
     )
@@ -64,10 +71,16 @@ loop-less : tie.Need-loop-less Inv-loop μ-loop
 loop-less c = omega arith
 
 loop-again : tie.Need-loop-again Inv-loop μ-loop
-loop-again c = filled-more _ _ _ _ _ _ (c .before .before .before .loop .inv) (omega arith) (c .agreement-at .ensures)
+loop-again c = filled-more _ _ _ _ _ _ (c .before .before .before .before .loop .inv) (omega arith) (c .agreement-at .ensures)
 
 returns : tie.Need-returns Inv-loop μ-loop
-returns c = filled-done _ _ _ _ _ (c .before .loop .inv) (omega arith) (omega arith) ∙ agreements-are _ _ _ _ _ _ _ (c .before .before .before .before .before .before .before .pre .0) (c .before .before .before .before .before .before .before .pre .1) (c .before .before .before .before .before .blocks2 .ensures) (c .before .before .before .codewords .ensures .1 ∙ codewords-in _ _ _ _ (replicate 1024 blank) (c .before .before .before .before .before .before .before .pre .0) refl)
+returns c =
+    let v = c .before .before .before in
+    let w = v .before .before .before .before in
+    let b = w .before .before .blocks2 .ensures in
+    let s = w .before .before .before .before in
+    rw b at (filled-done _ _ _ _ _ (c .before .loop .inv) (omega arith) (omega arith))
+    ∙ agreements-are _ _ _ _ _ _ _ (s .pre .0) (s .pre .1) (w .codewords .ensures .1 ∙ codewords-in _ _ _ _ (replicate 1024 blank) (s .pre .0) refl) (rw b at (v .write .ensures .1))
 
 pub flags-spec : {M : Type 1} → statement M
 flags-spec =
@@ -79,6 +92,9 @@ flags-spec =
     cast-b
     slice-aggregate-codewords
     codewords-requires
+    slice-aggregate-write
+    slice-aggregate-write-2
+    write-requires
     loop-holds
     cast-at
     slice-aggregate-agreement-at

@@ -13,19 +13,17 @@ received-requires c κs = search needs
 settled-requires : tie.Need-settled-requires
 settled-requires c κs = search needs
 
-firm-requires : tie.Need-firm-requires
-firm-requires c κs = search needs
-
 returns : tie.Need-returns
 unfolding hears received message resettled
 returns c =
-    let a = c .before .before .before .before .before .before .before .before .args in
-    let vote = c .before .before .before .before .before .settled .result in
-    let sure = c .before .before .before .before .firm .result in
-    let e : withStage (a .next) (withVote vote sure (a .column)) ≡ hears Proposals (a .next) (a .column) (a .inbox .now) =
-    rw (c .before .before .before .before .firm .ensures, c .before .before .before .before .before .settled .ensures, c .before .before .before .before .before .before .received .ensures) refl in
+    let s = c .before .before .before .before in
+    let r = s .before in
+    let a = r .before .before .args in
+    let ballot = s .settled .result in
+    let e : withStage (a .next) (withVote (ballot .vote) (ballot .firm) (a .column)) ≡ hears Proposals (a .next) (a .column) (a .inbox .now) =
+    rw (s .settled .ensures .1, s .settled .ensures .0, r .received .ensures) refl in
     e
 
 pub hear-proposals-spec : {M : Type 1} → statement M
 hear-proposals-spec =
-    tie.close (tie.spec received-requires settled-requires firm-requires returns)
+    tie.close (tie.spec received-requires settled-requires returns)

@@ -288,22 +288,24 @@ fn by_locator(n: usize, t: usize, k: usize, points: &[u16]) -> Decoded
     Decoded::Nothing
 }
 
-// The answer for n points where nothing is refused.
+// The answer for n points where nothing is refused. The size of a small block is handed on as a literal: then the compiler writes out what is
+// done with its coefficients.
 fn answer(n: u8, points: &[u16]) -> Decoded
     requires { ⌜ Accepts n (now points) ⌝ }
     ensures { λ r. ⌜ r ≡ decoded n (now (points .entry)) ⌝ }
 {
     let all = n as usize;
     let t = sizes::faults(n);
-    let k = sizes::degree(n) + 1;
     let need = all - t;
     if present(all, points) < need {
         return Decoded::Nothing;
     }
-    if k <= 2 {
-        return by_windows(all, t, k, points);
+    let d = sizes::degree(n);
+    match d {
+        0 => by_windows(all, t, 1, points),
+        1 => by_windows(all, t, 2, points),
+        _ => by_locator(all, t, d + 1, points),
     }
-    by_locator(all, t, k, points)
 }
 
 // The polynomial of degree at most d that meets at least n - t of the n points, or none. It refuses n outside 4 to 31 with 1, and a

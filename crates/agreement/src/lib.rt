@@ -1,17 +1,19 @@
 // A column of a wall: the types of its state and of what its calls answer. What the calls do, in every protocol, is defined in specs/, and the
 // third demand and Definition 3.10 are proved of the definitions there. The calls themselves stand above, in crates of their own; there is no
 // code here.
+#![tactic(auto)]
+
 use protocols::Protocol;
 
 // What a run ended on. The record's bytes stand in the column.
-#[derive(Drop)]
+#[derive(Clone, Copy)]
 pub enum Outcome {
     Nothing,
     Record,
 }
 
 // What a column is to do: to speak or to listen in a round, counted from 1, or nothing more.
-#[derive(Drop)]
+#[derive(Clone, Copy)]
 pub enum Stage {
     Speak(u8),
     Listen(u8),
@@ -20,7 +22,7 @@ pub enum Stage {
 
 // A column's state: what it runs, n columns, m bytes, its own number, its record in 32 places, and what the rounds made of them. Flags lie by
 // column number, kept points by block.
-#[derive(Drop)]
+#[derive(Clone, Copy)]
 pub struct Column {
     pub protocol: Protocol,
     pub n: u8,
@@ -38,21 +40,21 @@ pub struct Column {
 }
 
 // What a call to make a column, to speak or to listen answers: done, or document 01's number of the refusal.
-#[derive(Drop)]
+#[derive(Clone, Copy)]
 pub enum Answer {
     Done,
     Refused(u8),
 }
 
 // The answer, and the state after the call: as it came, where the call was refused.
-#[derive(Drop)]
+#[derive(Clone, Copy)]
 pub struct Answered {
     pub answer: Answer,
     pub column: Column,
 }
 
 // What a call for the outcome answers.
-#[derive(Drop)]
+#[derive(Clone, Copy)]
 pub enum Reply {
     Ended(Outcome),
     Refused(u8),
@@ -60,7 +62,7 @@ pub enum Reply {
 
 // The reply; the grade that goes with it, in an agreement the one with which the column left dispersal; the record's bytes, zeros past m and
 // where there is no record; and the state as it came.
-#[derive(Drop)]
+#[derive(Clone, Copy)]
 pub struct Replied {
     pub reply: Reply,
     pub grade: u8,
@@ -71,7 +73,7 @@ pub struct Replied {
 // What one column of a wall came to: its mark, the grade of its outcome, its last vote, whether it ended on a record, and the record's bytes,
 // zeros past m and where there is none. The entry of an unsound column is its mark and zeros.
 #[repr(C)]
-#[derive(Drop)]
+#[derive(Clone, Copy)]
 pub struct Entry {
     pub mark: u8,
     pub grade: u8,
@@ -81,7 +83,7 @@ pub struct Entry {
 }
 
 // What a column tells that is asked for its entry: the number of the refusal, 0 for none, and the entry, a mark 0 and zeros where it is refused.
-#[derive(Drop)]
+#[derive(Clone, Copy)]
 pub struct Told {
     pub refusal: u8,
     pub entry: Entry,

@@ -1,5 +1,7 @@
 // A block as a polynomial over the field, its first coefficient the constant term. A polynomial here has up to four coefficients, for no wall has
 // more in a block. Its value goes by recursion over them; it is asked for at one point, or at the points 1 to 32 at once.
+#![tactic(auto)]
+
 ghost use Rattle.std.specs.Prelude.{◌≡◌, get_or};
 ghost use Rattle.lists.specs.Lists.{list_of};
 ghost use Rattle.field.specs.Field.{element, of};

@@ -3,7 +3,7 @@ use column_bytes::columns;
 use wall_bytes::{blocks, walls};
 
 // The numbers of a case: columns of the wall, bytes of a record, which column or round, and the poster or, for rounds and values, the protocol.
-#[derive(Drop)]
+#[derive(Clone, Copy)]
 pub(super) struct Numbers {
     pub(super) n: u32,
     pub(super) m: u32,

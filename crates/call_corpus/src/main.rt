@@ -2,6 +2,8 @@
 // write as they are after it, in hexadecimal digits. A case is a header of 25 bytes and the slices. The header has the kind of the call in byte 0,
 // four numbers of four bytes from byte 1 on, and from byte 17 on the lengths of the slices a, b, v and w in two bytes each, v and w counted in
 // values of two bytes. Every number has its low byte first.
+#![tactic(auto)]
+
 mod calling;
 mod printing;
 mod reading;

@@ -1,6 +1,8 @@
 // A column of a wall, in every protocol: the calls that make it, let it speak and listen in every round and ask it for its outcome or its
 // entry. Each equals its definition in `agreement`, of which the third demand and Definition 3.10 are proved. A refused call gives its number
 // and the state as it came, and writes nothing.
+#![tactic(auto)]
+
 mod endings;
 mod entries;
 mod speaking;

@@ -1,5 +1,7 @@
 // A record as a codeword: its values at the point of a column, one for each block, and at the points of all columns at once. Each call answers, or
 // refuses with a number.
+#![tactic(auto)]
+
 ghost use Rattle.std.specs.Prelude.{◌≡◌, ◌++◌, ◌+◌, ◌*◌, ◌≤◌, ◌<◌, length, drop};
 ghost use Rattle.lists.specs.Lists.{list_of, rows_of};
 ghost use Rattle.sizes.specs.Sizes.{refusal as refusal_of_sizes};
@@ -13,7 +15,7 @@ use field::Field;
 
 // What a call for the values of a record answers: its refusal, 0 for none, and a value for each block, blank past the blocks; all blank where it
 // refuses.
-#[derive(Drop)]
+#[derive(Clone, Copy)]
 pub struct ValuesAt {
     pub refusal: u8,
     pub values: [u16; 32],

@@ -1,6 +1,8 @@
 // The decoder: of n points, the polynomial of degree at most d that meets at least n - t of them, or none. A polynomial that meets that
 // many is the answer, however it was found. Where it has one or two coefficients, it is one of those through neighbouring points. Where it has
 // more and the one through the first points is not it, an error locator says which points to trust.
+#![tactic(auto)]
+
 ghost use Rattle.std.specs.Prelude.{◌≡◌, cond, map, ◌+◌, ◌≤◌, ltb, length, take};
 ghost use Rattle.lists.specs.Lists.{bit, count};
 ghost use Rattle.field.specs.Field.{subtract, multiply};
@@ -15,7 +17,7 @@ ghost use Rattle.decoder.specs.Steps.{listed, tail_of, pushed};
 use field::Field;
 
 // A polynomial, its constant term first; coefficients that it does not have are 0.
-#[derive(Drop)]
+#[derive(Clone, Copy)]
 pub struct Coefficients {
     pub c0: u16,
     pub c1: u16,
@@ -23,7 +25,7 @@ pub struct Coefficients {
     pub c3: u16,
 }
 
-#[derive(Drop)]
+#[derive(Clone, Copy)]
 pub enum Decoded {
     Polynomial(Coefficients),
     Nothing,
@@ -31,7 +33,7 @@ pub enum Decoded {
 }
 
 // Four places, or the values there.
-#[derive(Drop)]
+#[derive(Clone, Copy)]
 struct Four {
     a: u16,
     b: u16,

@@ -1,5 +1,7 @@
 // What is delivered to a column in one round of a wall: from a sound column what it said to this one, from an unsound column the values of its
 // line.
+#![tactic(auto)]
+
 ghost use Rattle.std.specs.Prelude.{◌≡◌, ◌++◌, ℕ, ◌+◌, ◌*◌, ◌≤◌, eqb, length, drop};
 ghost use Rattle.lists.specs.Lists.{bit, list_of};
 ghost use Rattle.messages.specs.Messages.{unless_refused, word};
@@ -8,7 +10,7 @@ ghost use Rattle.delivery.specs.Delivery.{mailed as mailed_of, sent as sent_of, 
 ghost use Rattle.delivery.specs.Places.{place as place_of, Lying};
 
 // A round: how many values a line has for each receiver, how many of them belong to earlier rounds, and the values of one message.
-#[derive(Drop)]
+#[derive(Clone, Copy)]
 pub struct Round {
     pub line: u16,
     pub offset: u16,
@@ -68,7 +70,7 @@ fn copy(
 }
 
 // Where the first unsound column's values for one receiver begin in the sheet, and how far apart those of two unsound columns lie.
-#[derive(Drop)]
+#[derive(Clone, Copy)]
 struct Lines {
     place: usize,
     step: usize,

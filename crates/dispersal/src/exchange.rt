@@ -9,7 +9,7 @@ ghost use Rattle.dispersal.specs.Laws.{paired, same_at, same_as, agrees_across};
 use field::Field;
 
 // What a call on the messages of the exchange answers: its refusal, 0 for none, and a flag for each column, all false where it refuses.
-#[derive(Drop)]
+#[derive(Clone, Copy)]
 pub struct Agreed {
     pub refusal: u8,
     pub flags: [bool; 31],

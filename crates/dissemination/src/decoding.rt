@@ -12,7 +12,7 @@ use decoder::{Coefficients, Decoded};
 
 // What listening to the kept points answers: its refusal, 0 for none; whether there is a record; and its bytes, zeros past m and zeros
 // where there is none.
-#[derive(Drop)]
+#[derive(Clone, Copy)]
 pub struct Disseminated {
     pub refusal: u8,
     pub found: bool,
@@ -20,7 +20,7 @@ pub struct Disseminated {
 }
 
 // Whether every block was decoded to bytes, and their coefficients, four places for each block.
-#[derive(Drop)]
+#[derive(Clone, Copy)]
 struct Blocks {
     found: bool,
     coefficients: [u16; 128],

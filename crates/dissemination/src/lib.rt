@@ -1,5 +1,7 @@
 // Data dissemination on plain data: Protocol 3.8. `points` is its first round, with the points that are kept; `decoding` the second,
 // with the record that comes of it.
+#![tactic(auto)]
+
 pub mod decoding;
 pub mod points;
 

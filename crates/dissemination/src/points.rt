@@ -13,7 +13,7 @@ use field::Field;
 
 // What listening to the points answers: its refusal, 0 for none, and the kept point of each block, blank past the blocks; all blank
 // where it refuses.
-#[derive(Drop)]
+#[derive(Clone, Copy)]
 pub struct KeptPoints {
     pub refusal: u8,
     pub points: [u16; 32],

@@ -1,4 +1,6 @@
 // The field of the wall: the whole numbers modulo 257.
+#![tactic(auto)]
+
 ghost use Rattle.std.specs.Prelude.{◌≡◌, true, ◌*◌, ◌≤◌};
 ghost use Rattle.field.specs.Congruence.{◌≋◌};
 ghost use Rattle.field.specs.Field.{element, of, add, subtract, multiply, inverse, inverse_table};
@@ -31,7 +33,7 @@ fn inverses() -> [u16; 256]
 }
 
 // A number of the field. Each call takes any 16-bit number modulo 257, and what it gives is below 257.
-#[derive(Drop)]
+#[derive(Clone, Copy)]
 pub struct Field(pub u16);
 
 impl Field {

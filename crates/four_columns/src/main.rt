@@ -1,6 +1,8 @@
 // Plays two runs of a wall of four columns, with records of one byte, by the public calls of a column. In the first run all four are
 // sound and column 4 holds another record; in the second, document 01's worked sheet, column 4 is unsound and tells every neighbour
 // something else. A line is what a column answers for its outcome, column 1 also before the run. Then a column of a posting is played by itself.
+#![tactic(auto)]
+
 mod posted;
 
 ghost use Rattle.std.specs.Prelude.{◌≤◌};
@@ -10,7 +12,7 @@ use field::Field;
 use libc::STDOUT_FILENO;
 
 // The columns of a wall, 1 to 4.
-#[derive(Drop)]
+#[derive(Clone, Copy)]
 struct Wall {
     a: Column,
     b: Column,
@@ -19,7 +21,7 @@ struct Wall {
 }
 
 // A column that spoke, and its messages to the four.
-#[derive(Drop)]
+#[derive(Clone, Copy)]
 struct Turn {
     column: Column,
     out: [u16; 8],

@@ -1,5 +1,7 @@
 // The king rule on plain data: what a column proposes, how it votes after the proposals and whether the vote is firm, what the king
 // says, and the vote after it. Votes and proposals received lie by column number, the own among them; each call answers every input.
+#![tactic(auto)]
+
 ghost use Rattle.std.specs.Prelude.{◌≡◌};
 ghost use Rattle.messages.specs.Messages.{from, times};
 ghost use Rattle.king.specs.King.{bits, chosen as chosen_of, proposal as proposal_of, settled as settled_of, firm as firm_of, word as word_of, crowned as crowned_of};
@@ -37,7 +39,7 @@ pub fn proposal(n: u8, votes: [u16; 31]) -> u16
 }
 
 // What the proposals give: a vote, and whether it is firm.
-#[derive(Drop)]
+#[derive(Clone, Copy)]
 pub struct Ballot {
     pub vote: u8,
     pub firm: bool,

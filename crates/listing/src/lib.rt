@@ -1,4 +1,6 @@
 // The listing of a wall as bytes: a line of its sizes and one for each column, or the one line of a refused run.
+#![tactic(auto)]
+
 pub mod console;
 mod lines;
 pub mod numbers;
@@ -18,7 +20,7 @@ pub const ROOM: usize = 42566;
 pub const MOST: usize = 3200;
 
 // A listing by value: it stands in the first `len` bytes.
-#[derive(Drop)]
+#[derive(Clone, Copy)]
 pub struct Printed {
     pub bytes: [u8; MOST],
     pub len: usize,

@@ -1,1 +1,2 @@
 // Definitions and laws on lists, rows and counts, in specs/. No code.
+#![tactic(auto)]

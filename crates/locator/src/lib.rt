@@ -1,6 +1,8 @@
 // An error locator: of points that may be wrong or blank, the values of a polynomial e at their places. If some polynomial of low degree
 // meets enough of the points, it meets every point at which e is not 0, and those are enough to know it by. (Welch and Berlekamp's
 // interpolation in Koetter's form, without a division; specs/Locator.antt says how.)
+#![tactic(auto)]
+
 ghost use Rattle.std.specs.Prelude.{◌≡◌, ◌+◌, ◌%◌, ◌<◌};
 ghost use Rattle.lists.specs.Lists.{list_of};
 ghost use Rattle.locator.specs.Held.{Held, run_of};
@@ -10,7 +12,7 @@ ghost use Rattle.locator.specs.Locator.{first_at, second_at, mixed_at, cleared, 
 use field::Field;
 
 // How heavy the two pairs are.
-#[derive(Drop)]
+#[derive(Clone, Copy)]
 struct Weights {
     first: u16,
     second: u16,

@@ -1,5 +1,7 @@
 // Messages of one round: what a value says, how messages lie in a slice by column number, and what a column hears, its own place
 // being what it would send itself. What is not there is blank.
+#![tactic(auto)]
+
 ghost use Rattle.std.specs.Prelude.{◌≡◌, true, cond, ◌+◌, ◌*◌, ◌≤◌, eqb, leb, ◌∷◌, ◌++◌, length, get_or, drop};
 ghost use Rattle.lists.specs.Lists.{bit, list_of};
 ghost use Rattle.messages.specs.Messages.{read_point, read_report, read_bit, read_byte, said, from, word as word_of, to_all, laid, written, put as put_of, refusal as refusal_of, unless_refused, to_all_refusal, heard as heard_of, heard_from, heard_of_all, times as times_of};

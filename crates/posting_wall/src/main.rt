@@ -1,5 +1,7 @@
 // Reads one sheet from standard input and prints the listing of its posting wall, or `refused` and a number. The argument is the number of the
 // column that posts.
+#![tactic(auto)]
+
 use protocols::Protocol;
 
 fn main() {

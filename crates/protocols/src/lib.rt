@@ -1,5 +1,7 @@
 // The protocols that a column runs. Each is its rounds, told once, by kind; what a round's messages are follows from its kind. Each function
 // answers every byte; which are no sizes, `sizes::refusal` says.
+#![tactic(auto)]
+
 ghost use Rattle.std.specs.Prelude.{◌≡◌, ◌+◌, ◌*◌, ◌/◌, ◌%◌, ◌≤◌, ◌<◌, get_or};
 ghost use Rattle.sizes.specs.Sizes.{blocks as blocks_of};
 ghost use Rattle.protocols.specs.declared.Protocol.TheVariants.{Agreement, Posting};
@@ -7,14 +9,14 @@ ghost use Rattle.protocols.specs.declared.Kind.TheVariants.{KeptPoints};
 ghost use Rattle.protocols.specs.Protocols.{width as width_of, phase, rounds_in, kind_in, values_in, line_in, beside as beside_of, posts as posts_of, number_of, protocol_of};
 
 // What a wall runs: an agreement, Protocol 3.14, or a posting by the column of this number, Protocol 3.11.
-#[derive(Drop)]
+#[derive(Clone, Copy)]
 pub enum Protocol {
     Agreement,
     Posting(u8),
 }
 
 // The kinds of rounds. In a king's round the king is one column, and in the first round of a posting the poster.
-#[derive(Drop)]
+#[derive(Clone, Copy)]
 pub enum Kind {
     Exchange,
     FirstReport,
@@ -169,7 +171,7 @@ pub const PROTOCOLS: usize = 2;
 
 // What a protocol is beside its rounds: its number, as a state's bytes have it; whether one column posts its record to all others; and the
 // column number that stands beside the sizes, the poster's or, without one, column 1, which is never refused.
-#[derive(Drop)]
+#[derive(Clone, Copy)]
 struct Label {
     number: u8,
     posts: bool,

@@ -1,5 +1,7 @@
 // The refusals of a column's calls, in every protocol, as document 01 numbers and orders them; 0 for none. To speak, to listen and to ask are
 // refused here by the state alone: that of a slice comes behind them, and is the round's.
+#![tactic(auto)]
+
 mod ranges;
 
 ghost use Rattle.std.specs.Prelude.{◌≡◌};

@@ -1,5 +1,7 @@
 // One round of a column, by the round's kind: what it says to each column, and what it becomes by what it hears. Which round is of which kind,
 // and whose turn it is, is for the calls above to say.
+#![tactic(auto)]
+
 mod exchange;
 mod listening;
 mod phases;

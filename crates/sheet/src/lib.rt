@@ -1,4 +1,6 @@
 // A sheet of a wall, read where it lies: the sizes, the marks, where the records stand, and what is refused.
+#![tactic(auto)]
+
 ghost use Rattle.std.specs.Prelude.{◌≡◌, ◌+◌, ◌*◌, ◌<◌};
 ghost use Rattle.sheet.specs.Sheet.{columns as columns_of, bytes as bytes_of, mark as mark_of, sound as sound_of, unsound as unsound_of, unsound_to, record_place, arrays as arrays_of, whole as whole_of, mark_fits, in_order, refusal_of_marks, refusal as refusal_of};
 ghost use Rattle.lists.specs.Lists.{bit, all};

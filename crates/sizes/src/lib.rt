@@ -1,5 +1,7 @@
 // The sizes of a wall: of n columns and records of m bytes, how many columns may be unsound, the greatest degree of a block and the blocks
 // of a record. Each answers every byte; `refusal` says which are no sizes.
+#![tactic(auto)]
+
 ghost use Rattle.std.specs.Prelude.{◌≡◌};
 ghost use Rattle.sizes.specs.Sizes.{faults as faults_of, degree as degree_of, blocks as blocks_of, outside as outside_of, refusal as refusal_of};
 

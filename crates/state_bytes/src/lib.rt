@@ -1,5 +1,7 @@
 // A column's state as bytes, and back; and an entry as bytes. The layout is defined in specs/, part by part, where it is proved that neither way
 // loses anything.
+#![tactic(auto)]
+
 pub mod entries;
 mod reading;
 mod writing;

@@ -1,5 +1,7 @@
 // Plays stored walls from standard input and prints their listings, one after the other. A case is one byte for the protocol (0: an agreement,
 // anything else: a posting), one for the poster's number, two for the sheet's length, the low one first, and the sheet.
+#![tactic(auto)]
+
 use libc::{STDIN_FILENO, STDOUT_FILENO};
 use protocols::Protocol;
 

@@ -1,4 +1,6 @@
 // A whole wall: n columns driven by their calls through all rounds of a protocol, the unsound ones speaking from their lines of the sheet.
+#![tactic(auto)]
+
 mod entries;
 mod listening;
 mod rounds;
@@ -15,7 +17,7 @@ pub use protocols::Protocol;
 
 // What a run came to: the number of the refusal, 0 for none, how many columns have an entry, none where the run was refused, and the
 // entries by column number.
-#[derive(Drop)]
+#[derive(Clone, Copy)]
 pub struct Outcomes {
     pub refusal: u8,
     pub count: usize,

@@ -1,0 +1,9 @@
+-- `value` meets its contract: nothing stands behind the last coefficient.
+use Rattle.std.proofs.Common.{ap}
+use Rattle.std.proofs.Math.Path.{◌∙◌}
+use Rattle.field.specs.Field.{element}
+use Rattle.block.specs.Value.{behind_zero}
+use Rattle.block.proofs.value.Goals as goal
+
+pub returns : goal.returns
+returns c = ap element (c.behind.ensures ∙ behind_zero _ _)

@@ -1,0 +1,17 @@
+-- `word` meets its contract.
+use Rattle.std.proofs.Math.Path.{◌∙◌}
+use Rattle.std.proofs.Common.{arith}
+use Rattle.lists.specs.Loops.{filled_none, filled_more, filled_done}
+use Rattle.block.specs.Block.{word_at}
+use Rattle.block.specs.Value.{behind_zero}
+use Rattle.block.proofs.word.Goals as goal
+
+pub loop-i-init : goal.loop-i-init
+loop-i-init c = filled_none _ _ _ (omega arith)
+
+pub loop-i-preserved : goal.loop-i-preserved
+unfolding word_at
+loop-i-preserved c = filled_more _ _ _ _ _ _ c.loop-i.invariant (omega arith) (c.behind.ensures ∙ behind_zero _ _)
+
+pub returns : goal.returns
+returns c = filled_done _ _ _ _ _ c.loop-i.invariant (omega arith) (omega arith)

@@ -1,0 +1,8 @@
+-- `entries::sound_entry` meets its contract.
+use Rattle.std.specs.Prelude.{refl}
+use Rattle.agreement.specs.Entries.{sound_entry}
+use Rattle.calls.proofs.entries.sound_entry.Goals as goal
+
+pub returns : goal.returns
+unfolding sound_entry
+returns c = rw (c.entry_asked.ensures, c.outcome.ensures) refl

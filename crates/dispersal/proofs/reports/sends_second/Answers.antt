@@ -1,0 +1,23 @@
+-- `reports::sends_second` meets its contract.
+use Rattle.std.proofs.Math.Path.{◌∙◌}
+use Prim.Native.Nat.{◌-◌}
+use Rattle.std.proofs.Common.{arith, le-leb}
+use Rattle.std.proofs.lemmas.Bool.{lt-leb}
+use Rattle.lists.specs.Lists.{count}
+use Rattle.sizes.specs.Sizes.{faults}
+use Rattle.sizes.specs.Laws.{faults_le}
+use Rattle.dispersal.specs.Dispersal.{agrees, reported, both, second_quorum}
+use Rattle.dispersal.proofs.reports.sends_second.Goals as goal
+
+pub overflow_sub-n : goal.overflow_sub-n
+overflow_sub-n c = omega (arith, c.faults.ensures, faults_le c.args.n)
+
+pub returns-then-n-faults : goal.returns-then-n-faults
+unfolding second_quorum
+returns-then-n-faults c = let a = c.args in
+    c.flag_of.ensures ∙ simp (le-leb (a.n - faults a.n) (count (both (agrees a.agreements.now) (reported a.reports.now)) a.n) (omega (arith, c.if-n-faults.true, c.faults.ensures, c.in_both.ensures)))
+
+pub returns : goal.returns
+unfolding second_quorum
+returns c = let a = c.args in
+    simp (lt-leb (a.n - faults a.n) (count (both (agrees a.agreements.now) (reported a.reports.now)) a.n) (omega (arith, c.if-n-faults.false, c.faults.ensures, c.in_both.ensures)))

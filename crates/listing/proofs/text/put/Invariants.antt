@@ -1,0 +1,8 @@
+-- `text::put` meets its contract.
+use Rattle.std.specs.Prelude.{length}
+use Rattle.listing.specs.Writing.{Joins}
+use Rattle.listing.specs.Laws.{letter}
+use Rattle.listing.proofs.text.put.Given as goal
+
+abbrev pub invariant-loop-k : goal.invariant-loop-k
+invariant-loop-k l = Joins (letter l.word) (length l.word) l.initial.out l.at l.out l.next l.k

@@ -1,0 +1,20 @@
+-- `write_within` meets its contract.
+use Rattle.std.proofs.Common.{arith}
+use Rattle.field.specs.Field.{blank}
+use Rattle.lists.specs.Entries.{get_d_within}
+use Rattle.lists.specs.Loops.{filled_none, filled_more, filled_part}
+use Rattle.messages.specs.Messages.{said}
+use Rattle.messages.proofs.write_within.Goals as goal
+
+pub loop-k-init : goal.loop-k-init
+loop-k-init c = filled_none _ _ _ (omega arith)
+
+pub loop-k-preserved : goal.loop-k-preserved
+unfolding said
+loop-k-preserved c = filled_more _ _ _ _ _ _ c.loop-k.invariant (omega arith) (get_d_within c.args.message.now c.loop-k.k 0 blank (omega arith))
+
+pub shape_of-part : goal.shape_of-part
+shape_of-part c = c.loop-k.invariant.same
+
+pub returns : goal.returns
+returns c = filled_part _ _ _ _ _ c.loop-k.invariant (omega arith)

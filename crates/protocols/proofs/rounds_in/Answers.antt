@@ -1,0 +1,17 @@
+-- `rounds_in` meets its contract.
+use Rattle.std.proofs.Common.{sym, arith}
+use Rattle.sizes.specs.Laws.{faults_le}
+use Rattle.protocols.specs.Laws.{rounds_agreement, rounds_posting}
+use Rattle.protocols.proofs.rounds_in.Goals as goal
+
+pub overflow_mul-result : goal.overflow_mul-result
+overflow_mul-result c = omega (arith, c.faults.ensures, faults_le c.args.n)
+
+pub overflow_add-result : goal.overflow_add-result
+overflow_add-result c = omega (arith, c.faults.ensures, faults_le c.args.n)
+
+pub returns-in-Agreement : goal.returns-in-Agreement
+returns-in-Agreement c = rw c.enum_told-1.given.1 (omega (arith, c.faults.ensures, rounds_agreement c.args.n))
+
+pub returns-in-Posting : goal.returns-in-Posting
+returns-in-Posting c = rw c.enum_told-in-Posting-1.given.1 (sym (rounds_posting _ _))

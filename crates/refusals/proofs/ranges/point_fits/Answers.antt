@@ -1,0 +1,14 @@
+-- `ranges::point_fits` meets its contract.
+use Rattle.std.proofs.Common.{sym}
+use Rattle.std.proofs.Math.Path.{◌∙◌}
+use borrow.Author.Tests.{lt-ltb, le-ltb, eq-eqb, ne_eqb}
+use Rattle.refusals.proofs.ranges.point_fits.Goals as goal
+
+pub returns-then-read_point-v : goal.returns-then-read_point-v
+returns-then-read_point-v c = simp (← c.read_point.ensures, ne_eqb _ _ c.if-read_point-v.taken)
+
+pub returns-then-k-b : goal.returns-then-k-b
+returns-then-k-b c = simp (eq-eqb _ _ (sym c.read_point.ensures ∙ c.if-read_point-v.left), lt-ltb _ _ c.if-k-b.taken)
+
+pub returns : goal.returns
+returns c = simp (eq-eqb _ _ (sym c.read_point.ensures ∙ c.if-read_point-v.left), le-ltb _ _ c.if-k-b.left)

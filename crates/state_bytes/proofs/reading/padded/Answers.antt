@@ -1,0 +1,15 @@
+-- `reading::padded` meets its contract.
+use Rattle.std.proofs.Common.{arith}
+use Rattle.lists.specs.Loops.{filled_none, filled_more, filled_done}
+use Rattle.state_bytes.specs.Layout.{whole}
+use Rattle.state_bytes.proofs.reading.padded.Goals as goal
+
+pub loop-i-init : goal.loop-i-init
+loop-i-init c = filled_none _ _ _ (omega arith)
+
+pub loop-i-preserved : goal.loop-i-preserved
+loop-i-preserved c = filled_more _ _ _ _ _ _ c.loop-i.invariant (omega arith) c.byte.ensures
+
+pub returns : goal.returns
+unfolding whole
+returns c = filled_done _ _ _ _ _ c.loop-i.invariant (omega arith) (omega arith)

@@ -1,0 +1,6 @@
+-- `main` meets its contract: it ends, since its loop counts.
+use Prim.Native.Nat.{◌≤◌}
+use Rattle.wall_corpus.proofs.main.Given as goal
+
+abbrev pub invariant-loop : goal.invariant-loop
+invariant-loop l = l.counter ≤ 1000000

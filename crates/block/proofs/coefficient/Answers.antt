@@ -1,6 +1,5 @@
 -- `coefficient` meets its contract.
-use Rattle.std.proofs.Common.{sym, ap, arith}
-use Rattle.std.specs.Prelude.{ℕ}
+use Rattle.std.proofs.Common.{sym, ap, arith, ℕ}
 use Rattle.std.proofs.Math.ListN.{get_or-eq_default}
 use Rattle.field.specs.Field.{element, of}
 use Rattle.block.proofs.coefficient.Goals as goal

@@ -1,6 +1,5 @@
 -- `value` meets its contract: nothing stands behind the last coefficient.
-use Rattle.std.proofs.Common.{ap}
-use Rattle.std.proofs.Math.Path.{◌∙◌}
+use Rattle.std.proofs.Common.{ap, ◌∙◌}
 use Rattle.field.specs.Field.{element}
 use Rattle.block.specs.Value.{behind_zero}
 use Rattle.block.proofs.value.Goals as goal

@@ -1,6 +1,5 @@
 -- `word` meets its contract.
-use Rattle.std.proofs.Math.Path.{◌∙◌}
-use Rattle.std.proofs.Common.{arith}
+use Rattle.std.proofs.Common.{◌∙◌, arith}
 use Rattle.lists.specs.Loops.{filled_none, filled_more, filled_done}
 use Rattle.block.specs.Block.{word_at}
 use Rattle.block.specs.Value.{behind_zero}

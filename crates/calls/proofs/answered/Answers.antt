@@ -1,6 +1,5 @@
 -- `answered` meets its contract.
-use Rattle.std.specs.Prelude.{refl}
-use borrow.Author.Tests.{eq-eqb, ne_eqb}
+use Rattle.std.proofs.Common.{refl, eq-eqb, ne_eqb}
 use Rattle.agreement.specs.Calls.{answered, answer_of}
 use Rattle.calls.proofs.answered.Goals as goal
 

@@ -1,5 +1,5 @@
 -- `fresh` meets its contract.
-use Rattle.std.specs.Prelude.{refl}
+use Rattle.std.proofs.Common.{refl}
 use Rattle.agreement.specs.Calls.{fresh}
 use Rattle.calls.proofs.fresh.Goals as goal
 

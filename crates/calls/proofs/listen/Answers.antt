@@ -1,6 +1,5 @@
 -- `listen` meets its contract.
-use Rattle.std.proofs.Common.{sym, arith}
-use Rattle.std.proofs.Math.Path.{◌∙◌}
+use Rattle.std.proofs.Common.{sym, arith, ◌∙◌}
 use Rattle.calls.specs.Answers.{may_listen, listen_refused, listen_heard}
 use Rattle.calls.proofs.listen.Goals as goal
 

@@ -1,7 +1,5 @@
 -- `codeword_of` meets its contract.
-use Rattle.std.proofs.Common.{ap, mul-le-mul, arith}
-use Rattle.std.proofs.Math.Path.{◌∙◌}
-use Rattle.std.specs.Prelude.{List, ℕ}
+use Rattle.std.proofs.Common.{ap, mul-le-mul, arith, ◌∙◌, List, ℕ}
 use Rattle.lists.specs.Lists.{list_of}
 use Rattle.block.specs.Block.{part, word_at}
 use Rattle.block.specs.Value.{part_front}

@@ -1,7 +1,5 @@
 -- `codewords` meets its contract.
-use Rattle.std.proofs.Common.{sym, ap}
-use Rattle.std.proofs.Math.Path.{◌∙◌}
-use Rattle.std.specs.Prelude.{ℕ, length}
+use Rattle.std.proofs.Common.{sym, ap, ◌∙◌, ℕ, length}
 use Rattle.messages.specs.Messages.{refusal}
 use Rattle.messages.specs.Laws.{if_refused, if_done, accepted as messages_accepted}
 use Rattle.codeword.proofs.codewords.Goals as goal

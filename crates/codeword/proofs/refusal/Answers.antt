@@ -1,6 +1,5 @@
 -- `refusal` meets its contract.
-use Rattle.std.proofs.Common.{sym, arith}
-use Rattle.std.proofs.Math.Path.{◌∙◌}
+use Rattle.std.proofs.Common.{sym, arith, ◌∙◌}
 use Rattle.codeword.specs.Words.{across_refused, across_few, across_no_room, across_accepted}
 use Rattle.codeword.proofs.refusal.Goals as goal
 

@@ -1,6 +1,5 @@
 -- `rows` meets its contract.
-use Rattle.std.proofs.Math.Path.{◌∙◌}
-use Rattle.std.proofs.Common.{arith}
+use Rattle.std.proofs.Common.{◌∙◌, arith}
 use Rattle.lists.specs.Loops.{rowed_none, rowed_fits, rowed_more, rowed_room, rowed_done}
 use Rattle.codeword.specs.Words.{row_written}
 use Rattle.codeword.proofs.rows.Goals as goal

@@ -1,7 +1,5 @@
 -- `sized_value` meets its contract: in each branch the literal is the size.
-use Rattle.std.proofs.Common.{sym, ap, arith}
-use Rattle.std.proofs.Math.Path.{◌∙◌}
-use Rattle.std.specs.Prelude.{ℕ}
+use Rattle.std.proofs.Common.{sym, ap, arith, ◌∙◌, ℕ}
 use Rattle.field.specs.Field.{element}
 use Rattle.block.specs.Block.{part, value as value_of}
 use Rattle.codeword.proofs.sized_value.Goals as goal

@@ -1,7 +1,5 @@
 -- `value` meets its contract.
-use Rattle.std.proofs.Common.{ap, mul-le-mul, arith, lt-ltb, le-ltb}
-use Rattle.std.proofs.Math.Path.{◌∙◌}
-use Rattle.std.specs.Prelude.{List, ℕ}
+use Rattle.std.proofs.Common.{ap, mul-le-mul, arith, lt-ltb, le-ltb, ◌∙◌, List, ℕ}
 use Rattle.field.specs.declared.Field.{Field}
 use Rattle.block.specs.Block.{part, value as value_of}
 use Rattle.block.specs.Value.{part_front}

@@ -1,7 +1,5 @@
 -- `values_of` meets its contract.
-use Rattle.std.proofs.Common.{ap, arith}
-use Rattle.std.proofs.Math.Path.{◌∙◌}
-use Prim.Native.Nat.{ℕ, ◌+◌}
+use Rattle.std.proofs.Common.{ap, arith, ◌∙◌, ℕ, ◌+◌}
 use Rattle.lists.specs.Loops.{filled_none, filled_more, filled_done}
 use Rattle.sizes.specs.Laws.{degree_le, accepted, sized}
 use Rattle.messages.specs.Messages.{laid}

@@ -1,6 +1,5 @@
 -- `write` meets its contract.
-use Rattle.std.proofs.Common.{sym, arith}
-use Rattle.std.proofs.Math.Path.{◌∙◌}
+use Rattle.std.proofs.Common.{sym, arith, ◌∙◌}
 use Rattle.sizes.specs.Laws.{accepted}
 use Rattle.messages.specs.Laws.{if_refused}
 use Rattle.codeword.specs.Codeword.{written_across}

@@ -1,6 +1,5 @@
 -- `write_across` meets its contract.
-use Rattle.std.specs.Prelude.{refl}
-use Rattle.std.proofs.Common.{arith}
+use Rattle.std.proofs.Common.{refl, arith}
 use Rattle.lists.specs.Loops.{filled_none, filled_more, filled_part}
 use Rattle.codeword.specs.Codeword.{across}
 use Rattle.codeword.proofs.write_across.Goals as goal

@@ -1,8 +1,5 @@
 -- `answer` meets its contract.
-use Rattle.std.proofs.Math.Path.{◌≡◌}
-use Rattle.std.specs.Prelude.{List}
-use Prim.Native.Nat.{ℕ, ◌+◌}
-use Rattle.std.proofs.Common.{arith}
+use Rattle.std.proofs.Common.{◌≡◌, List, ℕ, ◌+◌, arith}
 use Rattle.sizes.specs.Sizes.{faults, degree}
 use Rattle.decoder.specs.Exactly.{Accepts, sizes}
 use Rattle.decoder.specs.Answers.{Given, too_few}

@@ -1,5 +1,5 @@
 -- `at_place` meets its contract.
-use Rattle.std.proofs.Math.Path.{◌∙◌}
+use Rattle.std.proofs.Common.{◌∙◌}
 use Rattle.messages.specs.Messages.{said, from as at}
 use Rattle.decoder.proofs.at_place.Goals as goal
 

@@ -1,6 +1,5 @@
 -- `by_locator` meets its contract.
-use Rattle.std.proofs.Common.{ap, arith}
-use Prim.Native.Nat.{ℕ, ◌-◌, ◌*◌}
+use Rattle.std.proofs.Common.{ap, arith, ℕ, ◌-◌, ◌*◌}
 use Rattle.decoder.specs.Exactly.{sizes}
 use Rattle.decoder.specs.Answers.{met, none_left, code_locates}
 use Rattle.decoder.proofs.by_locator.Goals as goal

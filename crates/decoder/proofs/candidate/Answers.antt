@@ -1,7 +1,5 @@
 -- `candidate` meets its contract.
-use Rattle.std.proofs.Common.{ap, length-take-le}
-use Rattle.std.proofs.Math.Path.{◌∙◌}
-use Rattle.std.specs.Prelude.{List, ℕ, take}
+use Rattle.std.proofs.Common.{ap, length-take-le, ◌∙◌, List, ℕ, take}
 use Rattle.messages.specs.Messages.{from as at}
 use Rattle.decoder.specs.Decoder.{coefficients, through as through_of}
 use Rattle.decoder.specs.Places.{chain_take}

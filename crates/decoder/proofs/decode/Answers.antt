@@ -1,6 +1,5 @@
 -- `decode` meets its contract.
-use Rattle.std.proofs.Common.{ap, sym}
-use Rattle.std.proofs.Math.Path.{◌∙◌}
+use Rattle.std.proofs.Common.{ap, sym, ◌∙◌}
 use Rattle.decoder.specs.declared.Decoded.TheVariants.{Refused}
 use Rattle.decoder.specs.Exactly.{refused_columns, refused_points, accepts_of}
 use Rattle.decoder.proofs.decode.Goals as goal

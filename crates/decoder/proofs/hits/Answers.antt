@@ -1,8 +1,5 @@
 -- `hits` meets its contract.
-use Rattle.std.proofs.Math.Path.{◌∙◌}
-use Rattle.std.proofs.Common.{arith}
-use Rattle.std.specs.Prelude.{eqb}
-use Rattle.std.proofs.Math.ListN.{get_or}
+use Rattle.std.proofs.Common.{◌∙◌, arith, eqb, get_or}
 use Rattle.lists.specs.Loops.{counted_none, counted_more, counted_done, bit_most}
 use Rattle.decoder.specs.Steps.{same_hits, same_index}
 use Rattle.decoder.proofs.hits.Goals as goal

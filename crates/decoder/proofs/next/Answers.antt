@@ -1,6 +1,5 @@
 -- `next` meets its contract.
-use Rattle.std.proofs.Common.{sym, arith}
-use Rattle.std.proofs.Math.Path.{◌∙◌}
+use Rattle.std.proofs.Common.{sym, arith, ◌∙◌}
 use Rattle.decoder.specs.Steps.{passed_none, passed_more, passed_found, passed_all}
 use Rattle.decoder.proofs.next.Goals as goal
 

@@ -1,5 +1,5 @@
 -- `next` meets its contract.
-use Prim.Native.Nat.{◌-◌}
+use Rattle.std.proofs.Common.{◌-◌}
 use Rattle.decoder.specs.Places.{usable as usable_of}
 use Rattle.decoder.specs.Steps.{Passed}
 use Rattle.decoder.proofs.next.Given as goal

@@ -1,8 +1,5 @@
 -- `present` meets its contract.
-use Rattle.std.proofs.Common.{ap, arith}
-use Rattle.std.proofs.Math.Path.{◌∙◌}
-use Rattle.std.specs.Prelude.{ℕ, ltb}
-use Rattle.std.proofs.Math.ListN.{get_or}
+use Rattle.std.proofs.Common.{ap, arith, ◌∙◌, ℕ, ltb, get_or}
 use Rattle.lists.specs.Lists.{bit}
 use Rattle.lists.specs.Loops.{counted_none, counted_more, counted_done, bit_most}
 use Rattle.decoder.specs.Steps.{at_index}

@@ -1,9 +1,5 @@
 -- `copy` meets its contract.
-use Rattle.std.proofs.Math.Path.{◌≡◌, ◌∙◌}
-use Rattle.std.specs.Prelude.{refl, drop}
-use Rattle.std.proofs.Common.{sym, ap, arith}
-use mathlib.Core.List.{List, ◌++◌}
-use Prim.Native.Nat.{ℕ, ◌+◌, ◌-◌}
+use Rattle.std.proofs.Common.{◌≡◌, ◌∙◌, refl, drop, sym, ap, arith, List, ◌++◌, ℕ, ◌+◌, ◌-◌}
 use Rattle.lists.specs.Entries.{list_of_same}
 use Rattle.delivery.specs.Delivery.{lied, sent}
 use Rattle.delivery.specs.Places.{place_value}

@@ -1,6 +1,5 @@
 -- `copy_line` meets its contract.
-use Rattle.std.proofs.Common.{ap, arith}
-use Rattle.std.proofs.Math.Path.{◌∙◌}
+use Rattle.std.proofs.Common.{ap, arith, ◌∙◌}
 use Rattle.lists.specs.Loops.{filled_none, filled_more, filled_part}
 use Rattle.messages.specs.Messages.{word}
 use Rattle.delivery.proofs.copy_line.Goals as goal

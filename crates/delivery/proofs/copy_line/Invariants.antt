@@ -1,5 +1,5 @@
 -- `copy_line` meets its contract.
-use Prim.Native.Nat.{ℕ, ◌+◌, ◌*◌}
+use Rattle.std.proofs.Common.{ℕ, ◌+◌, ◌*◌}
 use Rattle.lists.specs.Loops.{Filled}
 use Rattle.messages.specs.Messages.{word}
 use Rattle.delivery.proofs.copy_line.Given as goal

@@ -1,5 +1,5 @@
 -- `copy_mail` meets its contract.
-use Prim.Native.Nat.{◌+◌}
+use Rattle.std.proofs.Common.{◌+◌}
 use Rattle.lists.specs.Loops.{Filled}
 use Rattle.delivery.specs.Delivery.{mailed}
 use Rattle.delivery.proofs.copy_mail.Given as goal

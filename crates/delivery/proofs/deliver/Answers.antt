@@ -1,7 +1,5 @@
 -- `deliver` meets its contract.
-use Rattle.std.proofs.Math.Path.{◌≡◌, ◌∙◌}
-use Rattle.std.proofs.Common.{sym, ap, arith}
-use Prim.Native.Nat.{◌+◌, ◌-◌}
+use Rattle.std.proofs.Common.{◌≡◌, ◌∙◌, sym, ap, arith, ◌+◌, ◌-◌}
 use Rattle.messages.specs.Laws.{if_refused, if_done}
 use Rattle.delivery.specs.Delivery.{inbox}
 use Rattle.delivery.specs.Refusals.{receives}

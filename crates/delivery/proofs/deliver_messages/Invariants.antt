@@ -1,6 +1,5 @@
 -- `deliver_messages` meets its contract.
-use Rattle.std.proofs.Math.Path.{◌≡◌}
-use Prim.Native.Nat.{◌+◌, ◌≤◌}
+use Rattle.std.proofs.Common.{◌≡◌, ◌+◌, ◌≤◌}
 use Rattle.lists.specs.Loops.{Rowed}
 use Rattle.sheet.specs.Sheet.{unsound_to}
 use Rattle.delivery.specs.Delivery.{sent, inbox}

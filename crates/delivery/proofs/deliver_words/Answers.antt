@@ -1,8 +1,5 @@
 -- `deliver_words` meets its contract.
-use Rattle.std.proofs.Math.Path.{◌≡◌, ◌∙◌}
-use Rattle.std.proofs.Common.{sym, ap, ap₂, add-one, arith}
-use Prim.Native.Nat.{ℕ, ◌+◌}
-use Rattle.std.specs.Prelude.{eqb}
+use Rattle.std.proofs.Common.{◌≡◌, ◌∙◌, sym, ap, ap₂, add-one, arith, ℕ, ◌+◌, eqb}
 use Rattle.lists.specs.Lists.{rows_of}
 use Rattle.lists.specs.Loops.{filled_none, filled_more, filled_done}
 use Rattle.lists.specs.Rows.{rows_of_one}

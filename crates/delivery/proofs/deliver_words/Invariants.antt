@@ -1,6 +1,5 @@
 -- `deliver_words` meets its contract.
-use Rattle.std.proofs.Math.Path.{◌≡◌}
-use Prim.Native.Nat.{ℕ, suc, ◌+◌, ◌≤◌}
+use Rattle.std.proofs.Common.{◌≡◌, ℕ, suc, ◌+◌, ◌≤◌}
 use Rattle.lists.specs.Loops.{Filled}
 use Rattle.sheet.specs.Sheet.{unsound_to}
 use Rattle.delivery.specs.Delivery.{sent, inbox}

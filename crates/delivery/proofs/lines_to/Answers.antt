@@ -1,8 +1,5 @@
 -- `lines_to` meets its contract.
-use Rattle.std.proofs.Math.Path.{◌≡◌}
-use Rattle.std.specs.Prelude.{refl}
-use Prim.Native.Nat.{◌*◌}
-use Rattle.std.proofs.Common.{mul-le-mul, arith}
+use Rattle.std.proofs.Common.{◌≡◌, refl, ◌*◌, mul-le-mul, arith}
 use Rattle.sheet.specs.Sheet.{arrays}
 use Rattle.sheet.specs.Laws.{record_place_lem}
 use Rattle.delivery.specs.Places.{place_first, place_le}

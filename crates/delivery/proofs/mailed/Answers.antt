@@ -1,9 +1,6 @@
 -- `mailed` meets its contract.
-use Rattle.std.proofs.Math.Path.{◌≡◌}
-use Rattle.std.specs.Prelude.{refl}
-use Rattle.std.proofs.Common.{mul-le-mul, arith}
+use Rattle.std.proofs.Common.{◌≡◌, refl, mul-le-mul, arith, ◌+◌, ◌-◌}
 use Rattle.delivery.specs.Delivery.{mailed}
-use Prim.Native.Nat.{◌+◌, ◌-◌}
 use Rattle.delivery.proofs.mailed.Goals as goal
 
 pub overflow_mul-at : goal.overflow_mul-at

@@ -1,6 +1,5 @@
 -- `next_place` meets its contract.
-use borrow.Author.Tests.{eq-eqb, ne_eqb}
-use Rattle.std.proofs.Common.{arith}
+use Rattle.std.proofs.Common.{eq-eqb, ne_eqb, arith}
 use Rattle.delivery.proofs.next_place.Goals as goal
 
 pub returns-then-mark-eq1 : goal.returns-then-mark-eq1

@@ -1,5 +1,5 @@
 -- `refusal` meets its contract.
-use Rattle.std.specs.Prelude.{refl}
+use Rattle.std.proofs.Common.{refl}
 use Rattle.delivery.specs.Delivery.{refusal}
 use Rattle.delivery.proofs.refusal.Goals as goal
 

@@ -1,7 +1,5 @@
 -- `word_from` meets its contract.
-use Rattle.std.proofs.Math.Path.{◌≡◌, ◌∙◌}
-use Rattle.std.proofs.Common.{sym, ap, arith}
-use Prim.Native.Nat.{◌+◌, ◌-◌, ◌*◌}
+use Rattle.std.proofs.Common.{◌≡◌, ◌∙◌, sym, ap, arith, ◌+◌, ◌-◌, ◌*◌}
 use Rattle.messages.specs.Messages.{word}
 use Rattle.delivery.specs.Delivery.{lied, sent}
 use Rattle.delivery.specs.Places.{place_value}

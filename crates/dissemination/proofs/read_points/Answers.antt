@@ -1,6 +1,5 @@
 -- `read_points` meets its contract.
-use Rattle.std.proofs.Common.{ap, arith}
-use Rattle.std.proofs.Math.Path.{◌∙◌}
+use Rattle.std.proofs.Common.{ap, arith, ◌∙◌}
 use Rattle.lists.specs.Loops.{filled_none, filled_more, filled_done}
 use Rattle.messages.specs.Messages.{read_point}
 use Rattle.dissemination.specs.Laws.{read_at}

@@ -1,7 +1,5 @@
 -- `refusal` meets its contract.
-use Rattle.std.specs.Prelude.{refl}
-use Rattle.std.proofs.Math.Path.{◌∙◌}
-use Rattle.std.proofs.Common.{arith}
+use Rattle.std.proofs.Common.{refl, ◌∙◌, arith}
 use Rattle.sizes.specs.Laws.{blocks_le}
 use Rattle.dissemination.proofs.refusal.Goals as goal
 

@@ -1,5 +1,5 @@
 -- `ended` meets its contract.
-use Prim.Native.Nat.{◌≤◌}
+use Rattle.std.proofs.Common.{◌≤◌}
 use Rattle.four_columns.proofs.ended.Given as goal
 
 abbrev pub invariant-loop-round : goal.invariant-loop-round

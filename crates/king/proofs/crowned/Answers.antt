@@ -1,9 +1,5 @@
 -- `crowned` meets its contract.
-use Rattle.std.proofs.Math.Path.{◌≡◌, ◌∙◌}
-use Rattle.std.proofs.Common.{sym, arith}
-use Rattle.std.specs.Prelude.{true}
-use Rattle.std.proofs.Math.Logic.{⊎_elim}
-use borrow.Author.Tests.{eq-eqb, ne_eqb}
+use Rattle.std.proofs.Common.{◌≡◌, ◌∙◌, sym, arith, true, ⊎_elim, eq-eqb, ne_eqb}
 use Rattle.messages.specs.Laws.{bit_or_blank}
 use Rattle.king.specs.King.{crowned}
 use Rattle.king.proofs.crowned.Goals as goal

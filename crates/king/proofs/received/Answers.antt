@@ -1,6 +1,5 @@
 -- `received` meets its contract.
-use Rattle.std.proofs.Common.{sym, arith}
-use Rattle.std.proofs.Math.Path.{◌∙◌}
+use Rattle.std.proofs.Common.{sym, arith, ◌∙◌}
 use Rattle.king.specs.Laws.{times_bits, times_none}
 use Rattle.king.proofs.received.Goals as goal
 

@@ -1,7 +1,5 @@
 -- `settled` meets its contract.
-use Rattle.std.proofs.Math.Path.{◌≡◌}
-use Rattle.std.specs.Prelude.{refl}
-use Rattle.std.proofs.Common.{arith}
+use Rattle.std.proofs.Common.{◌≡◌, refl, arith}
 use Rattle.sizes.specs.Laws.{faults_le}
 use Rattle.messages.specs.Messages.{from}
 use Rattle.king.specs.King.{settled, firm}

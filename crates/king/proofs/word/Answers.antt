@@ -1,5 +1,5 @@
 -- `word` meets its contract.
-use borrow.Author.Tests.{eq-eqb, ne_eqb}
+use Rattle.std.proofs.Common.{eq-eqb, ne_eqb}
 use Rattle.king.specs.King.{word}
 use Rattle.king.proofs.word.Goals as goal
 

@@ -1,6 +1,5 @@
 -- `of_input` meets its contract.
-use Rattle.std.proofs.Common.{arith}
-use Rattle.std.specs.Prelude.{take}
+use Rattle.std.proofs.Common.{arith, take}
 use Rattle.listing.specs.Whole.{printed_is, prints}
 use Rattle.listing.proofs.of_input.Goals as goal
 

@@ -1,7 +1,5 @@
 -- `write` meets its contract.
-use Rattle.std.specs.Prelude.{refl, List, ℕ, min, length}
-use Rattle.std.proofs.Math.Path.{◌≡◌, ◌∙◌}
-use Rattle.std.proofs.Common.{ap}
+use Rattle.std.proofs.Common.{refl, List, ℕ, min, length, ◌≡◌, ◌∙◌, ap}
 use Rattle.listing.specs.Listing.{listing, listing_of, shown}
 use Rattle.listing.proofs.write.Goals as goal
 

@@ -1,5 +1,5 @@
 -- `write_outcomes` meets its contract.
-use borrow.Author.Tests.{eq-eqb, ne_eqb}
+use Rattle.std.proofs.Common.{eq-eqb, ne_eqb}
 use Rattle.listing.specs.Writing.{puts_more, puts_done}
 use Rattle.listing.specs.Listing.{listing}
 use Rattle.listing.proofs.write_outcomes.Goals as goal

@@ -1,6 +1,5 @@
 -- `write_part` meets its contract.
-use Rattle.std.proofs.Common.{sym, arith, length-take-le}
-use Rattle.std.proofs.Math.Seq.{take_all}
+use Rattle.std.proofs.Common.{sym, arith, length-take-le, take_all}
 use Rattle.listing.proofs.write_part.Goals as goal
 
 pub slice_bounds-write-end : goal.slice_bounds-write-end

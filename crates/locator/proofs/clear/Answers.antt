@@ -1,6 +1,5 @@
 -- `clear` meets its contract.
-use Rattle.std.proofs.Common.{ap}
-use Rattle.std.proofs.Math.Path.{◌∙◌}
+use Rattle.std.proofs.Common.{ap, ◌∙◌}
 use Rattle.lists.specs.Lists.{list_of}
 use Rattle.field.specs.declared.Field.{Field}
 use Rattle.locator.specs.Locator.{discrepancy, mixed_at, cleared}

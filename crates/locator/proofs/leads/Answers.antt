@@ -1,5 +1,5 @@
 -- `leads` meets its contract.
-use borrow.Author.Tests.{eq-eqb, ne_eqb}
+use Rattle.std.proofs.Common.{eq-eqb, ne_eqb}
 use Rattle.locator.proofs.leads.Goals as goal
 
 pub returns-then-x-eq0 : goal.returns-then-x-eq0

@@ -1,6 +1,5 @@
 -- `locate` meets its contract: after j turns the two arrays and the weights are the run after j places.
-use Rattle.std.proofs.Common.{sym, arith, le-leb}
-use Rattle.std.proofs.Math.Path.{◌∙◌}
+use Rattle.std.proofs.Common.{sym, arith, le-leb, ◌∙◌}
 use Rattle.std.proofs.lemmas.Bool.{lt-leb}
 use Rattle.locator.specs.Held.{running_none, running_more, running_held, running_done}
 use Rattle.locator.proofs.locate.Goals as goal

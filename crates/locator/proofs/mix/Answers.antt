@@ -1,8 +1,5 @@
 -- `mix` meets its contract.
-use Rattle.std.proofs.Common.{ap, arith}
-use Rattle.std.proofs.Math.Path.{◌∙◌}
-use Rattle.std.specs.Prelude.{ℕ}
-use Rattle.std.proofs.Math.ListN.{get_or}
+use Rattle.std.proofs.Common.{ap, arith, ◌∙◌, ℕ, get_or}
 use Rattle.lists.specs.Loops.{filled_none, filled_read, filled_more, filled_done}
 use Rattle.field.specs.Field.{add, multiply}
 use Rattle.field.specs.declared.Field.{Field}

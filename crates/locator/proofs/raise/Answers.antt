@@ -1,8 +1,5 @@
 -- `raise` meets its contract.
-use Rattle.std.proofs.Math.Path.{◌≡◌, ◌∙◌}
-use Rattle.std.proofs.Common.{ap, ap₂, arith}
-use Prim.Native.Nat.{ℕ, ◌+◌, ◌%◌}
-use Rattle.std.proofs.Math.ListN.{get_or}
+use Rattle.std.proofs.Common.{◌≡◌, ◌∙◌, ap, ap₂, arith, ℕ, ◌+◌, ◌%◌, get_or}
 use Rattle.lists.specs.Loops.{filled_none, filled_read, filled_more, filled_done}
 use Rattle.field.specs.Field.{add, subtract, multiply}
 use Rattle.field.specs.declared.Field.{Field}

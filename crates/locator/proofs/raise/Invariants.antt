@@ -1,5 +1,5 @@
 -- `raise` meets its contract.
-use Rattle.std.proofs.Math.Path.{◌≡◌}
+use Rattle.std.proofs.Common.{◌≡◌}
 use Rattle.lists.specs.Loops.{Filled}
 use Rattle.field.specs.Field.{element, subtract}
 use Rattle.locator.specs.Locator.{raised_at}

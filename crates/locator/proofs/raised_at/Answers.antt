@@ -1,7 +1,5 @@
 -- `raised_at` meets its contract: a sum with no second product is the first one.
-use Rattle.std.proofs.Math.Path.{◌≡◌, ◌∙◌}
-use Rattle.std.proofs.Common.{ap, arith}
-use Prim.Native.Nat.{ℕ, ◌%◌}
+use Rattle.std.proofs.Common.{◌≡◌, ◌∙◌, ap, arith, ℕ, ◌%◌}
 use Rattle.field.specs.Field.{add, multiply}
 use Rattle.field.specs.declared.Field.{Field}
 use Rattle.locator.proofs.raised_at.Goals as goal

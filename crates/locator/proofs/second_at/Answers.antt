@@ -1,7 +1,5 @@
 -- `second_at` meets its contract.
-use Rattle.std.proofs.Common.{ap, lt-ltb, le-ltb}
-use Rattle.std.proofs.Math.Path.{◌∙◌}
-use Rattle.std.specs.Prelude.{ℕ}
+use Rattle.std.proofs.Common.{ap, lt-ltb, le-ltb, ◌∙◌, ℕ}
 use Rattle.field.specs.Field.{subtract}
 use Rattle.field.specs.declared.Field.{Field}
 use Rattle.locator.specs.Locator.{second_at}

@@ -1,6 +1,5 @@
 -- `turn` meets its contract: a law for each of its cases.
-use Rattle.std.proofs.Common.{sym}
-use Rattle.std.proofs.Math.Path.{◌∙◌}
+use Rattle.std.proofs.Common.{sym, ◌∙◌}
 use Rattle.locator.specs.Held.{run_of, turn_blank, turn_first, turn_none, turn_second}
 use Rattle.locator.proofs.turn.Goals as goal
 

@@ -1,6 +1,5 @@
 -- `byte` meets its contract.
-use Rattle.std.specs.Prelude.{refl}
-use Rattle.std.proofs.Common.{sym}
+use Rattle.std.proofs.Common.{refl, sym}
 use Rattle.std.proofs.Math.ListN.{get_or-eq_default}
 use Rattle.messages.proofs.byte.Goals as goal
 

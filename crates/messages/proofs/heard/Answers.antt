@@ -1,8 +1,5 @@
 -- `heard` meets its contract.
-use Rattle.std.proofs.Math.Path.{◌≡◌, ◌∙◌}
-use Rattle.std.proofs.Common.{sym, ap, arith}
-use Prim.Native.Nat.{ℕ, ◌-◌}
-use Rattle.std.proofs.Math.ListN.{get_or}
+use Rattle.std.proofs.Common.{◌≡◌, ◌∙◌, sym, ap, arith, ℕ, ◌-◌, get_or}
 use Rattle.messages.specs.Messages.{said, heard}
 use Rattle.messages.specs.Laws.{heard_own, heard_other}
 use Rattle.messages.proofs.heard.Goals as goal

@@ -1,6 +1,5 @@
 -- `in_places` meets its contract.
-use Rattle.std.proofs.Common.{sym, arith}
-use Rattle.std.proofs.Math.Path.{◌∙◌}
+use Rattle.std.proofs.Common.{sym, arith, ◌∙◌}
 use Rattle.std.proofs.Math.ListN.{get_or-replicate, get_or-eq_default}
 use Rattle.lists.specs.Entries.{get_d_within}
 use Rattle.lists.specs.Loops.{filled_none, filled_more, filled_rest}

@@ -1,6 +1,5 @@
 -- `in_places` meets its contract.
-use Prim.Native.Nat.{◌≤◌}
-use Rattle.std.specs.Prelude.{length}
+use Rattle.std.proofs.Common.{◌≤◌, length}
 use Rattle.lists.specs.Loops.{Filled}
 use Rattle.messages.specs.Messages.{said}
 use Rattle.messages.proofs.in_places.Given as goal

@@ -1,7 +1,5 @@
 -- `one_each` meets its contract.
-use Rattle.std.proofs.Math.Path.{◌≡◌}
-use Rattle.std.specs.Prelude.{ℕ}
-use Rattle.std.proofs.Common.{arith, eqb-true}
+use Rattle.std.proofs.Common.{◌≡◌, ℕ, arith, eqb-true}
 use Rattle.messages.proofs.one_each.Goals as goal
 
 pub returns-then-n-gt31 : goal.returns-then-n-gt31

@@ -1,5 +1,5 @@
 -- `one_if` meets its contract.
-use borrow.Author.Tests.{eq-eqb, ne_eqb}
+use Rattle.std.proofs.Common.{eq-eqb, ne_eqb}
 use Rattle.messages.proofs.one_if.Goals as goal
 
 pub returns-then-x-v : goal.returns-then-x-v

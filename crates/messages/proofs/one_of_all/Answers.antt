@@ -1,6 +1,5 @@
 -- `one_of_all` meets its contract.
-use Rattle.std.proofs.Math.Path.{◌∙◌}
-use Rattle.std.proofs.Common.{inl, inr, arith}
+use Rattle.std.proofs.Common.{◌∙◌, inl, inr, arith}
 use Rattle.messages.specs.Laws.{one_of_others, one_of_own}
 use Rattle.messages.proofs.one_of_all.Goals as goal
 

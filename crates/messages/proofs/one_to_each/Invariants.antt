@@ -1,5 +1,5 @@
 -- `one_to_each` meets its contract.
-use Rattle.std.specs.Prelude.{length}
+use Rattle.std.proofs.Common.{length}
 use Rattle.lists.specs.Loops.{Rowed}
 use Rattle.messages.specs.Messages.{said}
 use Rattle.messages.proofs.one_to_each.Given as goal

@@ -1,9 +1,6 @@
 -- `put` meets its contract.
-use Rattle.std.proofs.Math.Path.{◌≡◌, ◌∙◌}
-use Rattle.std.specs.Prelude.{refl, length}
-use Rattle.std.proofs.Common.{sym, arith, le-leb}
+use Rattle.std.proofs.Common.{◌≡◌, ◌∙◌, refl, length, sym, arith, le-leb, get_or}
 use Rattle.std.proofs.lemmas.Bool.{lt-leb}
-use Rattle.std.proofs.Math.ListN.{get_or}
 use Rattle.lists.specs.Lists.{list_of}
 use Rattle.lists.specs.Entries.{list_of_get_d}
 use Rattle.lists.specs.Loops.{filled_none, filled_more, filled_part}

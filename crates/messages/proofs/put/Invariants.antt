@@ -1,6 +1,5 @@
 -- `put` meets its contract.
-use Rattle.std.specs.Prelude.{length}
-use Rattle.std.proofs.Math.ListN.{get_or}
+use Rattle.std.proofs.Common.{length, get_or}
 use Rattle.lists.specs.Loops.{Filled}
 use Rattle.messages.proofs.put.Given as goal
 

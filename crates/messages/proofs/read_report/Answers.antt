@@ -1,5 +1,5 @@
 -- `read_report` meets its contract.
-use borrow.Author.Tests.{eq-eqb, ne_eqb}
+use Rattle.std.proofs.Common.{eq-eqb, ne_eqb}
 use Rattle.messages.specs.Messages.{read_report}
 use Rattle.messages.proofs.read_report.Goals as goal
 

@@ -1,7 +1,5 @@
 -- `times_past` meets its contract.
-use Rattle.std.proofs.Common.{sym, ap, arith}
-use Rattle.std.proofs.Math.Path.{◌∙◌}
-use Rattle.std.specs.Prelude.{ℕ, eqb}
+use Rattle.std.proofs.Common.{sym, ap, arith, ◌∙◌, ℕ, eqb}
 use Rattle.lists.specs.Lists.{bit}
 use Rattle.lists.specs.Loops.{counted_none, counted_more, counted_done, bit_most}
 use Rattle.messages.specs.Messages.{times}

@@ -1,5 +1,5 @@
 -- `times_past` meets its contract.
-use Rattle.std.specs.Prelude.{eqb}
+use Rattle.std.proofs.Common.{eqb}
 use Rattle.lists.specs.Loops.{Counted}
 use Rattle.messages.specs.Messages.{from}
 use Rattle.messages.proofs.times_past.Given as goal

@@ -1,8 +1,5 @@
 -- `times_within` meets its contract.
-use Rattle.std.proofs.Common.{sym, ap, arith}
-use Rattle.std.proofs.Math.Path.{◌∙◌}
-use Rattle.std.specs.Prelude.{ℕ, eqb}
-use Rattle.std.proofs.Math.ListN.{get_or}
+use Rattle.std.proofs.Common.{sym, ap, arith, ◌∙◌, ℕ, eqb, get_or}
 use Rattle.lists.specs.Lists.{bit}
 use Rattle.lists.specs.Entries.{get_d_within}
 use Rattle.lists.specs.Loops.{counted_none, counted_more, counted_done, bit_most}

@@ -1,8 +1,5 @@
 -- `to_all` meets its contract.
-use Rattle.std.proofs.Math.Path.{◌≡◌, ◌∙◌}
-use Rattle.std.specs.Prelude.{refl, length}
-use Rattle.std.proofs.Common.{sym, ap, arith}
-use Prim.Native.Nat.{ℕ, ◌*◌}
+use Rattle.std.proofs.Common.{◌≡◌, ◌∙◌, refl, length, sym, ap, arith, ℕ, ◌*◌}
 use Rattle.lists.specs.Loops.{rowed_none, rowed_fits, rowed_more, rowed_room, rowed_done}
 use Rattle.messages.specs.Messages.{refusal, to_all}
 use Rattle.messages.specs.Laws.{written_fits, accepted, if_refused, if_done}

@@ -1,9 +1,6 @@
 -- `word` meets its contract.
-use Rattle.std.proofs.Math.Path.{◌≡◌}
-use Rattle.std.specs.Prelude.{refl}
-use Prim.Native.Nat.{◌+◌}
-use Rattle.std.proofs.Common.{arith}
-use Rattle.std.proofs.Math.ListN.{get_or, get_or-eq_default}
+use Rattle.std.proofs.Common.{◌≡◌, refl, ◌+◌, arith, get_or}
+use Rattle.std.proofs.Math.ListN.{get_or-eq_default}
 use Rattle.messages.specs.Messages.{word}
 use Rattle.messages.proofs.word.Goals as goal
 

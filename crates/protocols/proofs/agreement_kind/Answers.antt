@@ -1,7 +1,5 @@
 -- `agreement_kind` meets its contract.
-use Rattle.std.specs.Prelude.{refl}
-use Rattle.std.proofs.Common.{sym, ap, arith}
-use Rattle.std.proofs.Math.Path.{◌∙◌}
+use Rattle.std.proofs.Common.{refl, sym, ap, arith, ◌∙◌}
 use Rattle.protocols.specs.declared.Protocol.TheVariants.{Agreement}
 use Rattle.protocols.specs.Protocols.{kinds, kind_in}
 use Rattle.protocols.specs.Laws.{kind_first}

@@ -1,8 +1,5 @@
 -- `king_round` meets its contract.
-use Rattle.std.specs.Prelude.{refl}
-use Rattle.std.proofs.Common.{arith}
-use Prim.Native.Nat.{◌%◌}
-use Rattle.std.proofs.Math.Path.{◌≡◌}
+use Rattle.std.proofs.Common.{refl, arith, ◌%◌, ◌≡◌}
 use Rattle.protocols.specs.Protocols.{phase}
 use Rattle.protocols.proofs.king_round.Goals as goal
 

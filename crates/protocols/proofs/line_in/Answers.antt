@@ -28,9 +28,9 @@ overflow_add-result-in-Posting-2 c = omega (arith, c.blocks-b.ensures, blocks_le
 pub returns-in-Agreement : goal.returns-in-Agreement
 returns-in-Agreement c =
     let a = c.args in
-    rw c.enum_told-1.given.1 (omega (arith, c.faults.ensures, c.blocks-b.ensures, line_agreement a.n a.m))
+    rw c.in-Agreement.is (omega (arith, c.faults.ensures, c.blocks-b.ensures, line_agreement a.n a.m))
 
 pub returns-in-Posting : goal.returns-in-Posting
 returns-in-Posting c =
     let a = c.args in
-    rw c.enum_told-in-Posting-1.given.1 (rw c.blocks-b.ensures (sym (line_posting a.n a.m _)))
+    rw c.in-Posting.is (rw c.blocks-b.ensures (sym (line_posting a.n a.m _)))

@@ -1,6 +1,5 @@
 -- `posting_kind` meets its contract.
-use Rattle.std.specs.Prelude.{refl}
-use Rattle.std.proofs.Common.{sym, arith}
+use Rattle.std.proofs.Common.{refl, sym, arith}
 use Rattle.protocols.specs.Protocols.{kinds, kind_in}
 use Rattle.protocols.specs.declared.Protocol.TheVariants.{Posting}
 use Rattle.protocols.specs.Laws.{kind_first, posting_last}

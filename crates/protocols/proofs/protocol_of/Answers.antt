@@ -1,5 +1,5 @@
 -- `protocol_of` meets its contract.
-use borrow.Author.Tests.{eq-eqb, ne_eqb}
+use Rattle.std.proofs.Common.{eq-eqb, ne_eqb}
 use Rattle.protocols.specs.Protocols.{protocol_of}
 use Rattle.protocols.proofs.protocol_of.Goals as goal
 

@@ -11,7 +11,7 @@ pub overflow_add-result : goal.overflow_add-result
 overflow_add-result c = omega (arith, c.faults.ensures, faults_le c.args.n)
 
 pub returns-in-Agreement : goal.returns-in-Agreement
-returns-in-Agreement c = rw c.enum_told-1.given.1 (omega (arith, c.faults.ensures, rounds_agreement c.args.n))
+returns-in-Agreement c = rw c.in-Agreement.is (omega (arith, c.faults.ensures, rounds_agreement c.args.n))
 
 pub returns-in-Posting : goal.returns-in-Posting
-returns-in-Posting c = rw c.enum_told-in-Posting-1.given.1 (sym (rounds_posting _ _))
+returns-in-Posting c = rw c.in-Posting.is (sym (rounds_posting _ _))

@@ -1,7 +1,5 @@
 -- `values_in` meets its contract.
-use Rattle.std.specs.Prelude.{refl}
-use Rattle.std.proofs.Common.{sym}
-use Rattle.std.proofs.Math.Path.{◌∙◌}
+use Rattle.std.proofs.Common.{refl, sym, ◌∙◌}
 use Rattle.protocols.specs.Protocols.{values_in}
 use Rattle.protocols.proofs.values_in.Goals as goal
 

@@ -1,7 +1,5 @@
 -- `width` meets its contract.
-use Rattle.std.proofs.Math.Path.{◌≡◌}
-use Rattle.std.specs.Prelude.{refl, ℕ}
-use mathlib.Core.List.{[], ◌∷◌}
+use Rattle.std.proofs.Common.{◌≡◌, refl, ℕ, [], ◌∷◌}
 use types.Run.{OneOf, miss}
 use denote.Enum.Declared.{tag_of}
 use Rattle.protocols.specs.declared.Kind.TheVariants.{Exchange, FirstReport, SecondReport, Votes, Proposals, King, Points, KeptPoints, Post}
@@ -25,19 +23,19 @@ one_value n m (Post s) h = absurd (miss (1 ∷ 2 ∷ 3 ∷ 4 ∷ 5 ∷ []) 8 tt 
 
 pub returns-in-Exchange : goal.returns-in-Exchange
 unfolding width
-returns-in-Exchange c = rw (c.enum_told-1.given.1, c.blocks-in-Exchange.ensures.0) refl
+returns-in-Exchange c = rw (c.in-Exchange.is, c.blocks-in-Exchange.ensures.0) refl
 
 pub returns-in-Points : goal.returns-in-Points
 unfolding width
-returns-in-Points c = rw (c.enum_told-in-Points-1.given.1, c.blocks-in-Points.ensures.0) refl
+returns-in-Points c = rw (c.in-Points.is, c.blocks-in-Points.ensures.0) refl
 
 pub returns-in-KeptPoints : goal.returns-in-KeptPoints
 unfolding width
-returns-in-KeptPoints c = rw (c.enum_told-in-KeptPoints-1.given.1, c.blocks-in-KeptPoints.ensures.0) refl
+returns-in-KeptPoints c = rw (c.in-KeptPoints.is, c.blocks-in-KeptPoints.ensures.0) refl
 
 pub returns-in-Post : goal.returns-in-Post
 unfolding width
-returns-in-Post c = rw c.enum_told-in-Post-1.given.1 refl
+returns-in-Post c = rw c.in-Post.is refl
 
 pub returns-in_default : goal.returns-in_default
-returns-in_default c = one_value _ _ _ c.in_default.keys5
+returns-in_default c = one_value _ _ _ c.in_default.in_default-own.keys5

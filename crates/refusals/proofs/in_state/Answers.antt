@@ -1,5 +1,5 @@
 -- `in_state` meets its contract.
-use Rattle.std.specs.Prelude.{refl}
+use Rattle.std.proofs.Common.{refl}
 use Rattle.agreement.specs.Calls.{in_state}
 use Rattle.refusals.proofs.in_state.Goals as goal
 

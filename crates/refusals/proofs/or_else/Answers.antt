@@ -1,5 +1,5 @@
 -- `or_else` meets its contract.
-use borrow.Author.Tests.{eq-eqb, ne_eqb}
+use Rattle.std.proofs.Common.{eq-eqb, ne_eqb}
 use Rattle.agreement.specs.Calls.{or_else}
 use Rattle.refusals.proofs.or_else.Goals as goal
 

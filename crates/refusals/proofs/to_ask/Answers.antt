@@ -1,5 +1,5 @@
 -- `to_ask` meets its contract.
-use Rattle.std.specs.Prelude.{refl}
+use Rattle.std.proofs.Common.{refl}
 use Rattle.agreement.specs.Calls.{outcome_refusal}
 use Rattle.refusals.proofs.to_ask.Goals as goal
 

@@ -1,5 +1,5 @@
 -- `to_make` meets its contract.
-use Rattle.std.specs.Prelude.{refl}
+use Rattle.std.proofs.Common.{refl}
 use Rattle.agreement.specs.Calls.{fresh_refusal}
 use Rattle.refusals.proofs.to_make.Goals as goal
 

@@ -1,5 +1,5 @@
 -- `to_speak` meets its contract.
-use Rattle.std.specs.Prelude.{refl}
+use Rattle.std.proofs.Common.{refl}
 use Rattle.refusals.proofs.to_speak.Goals as goal
 
 pub returns : goal.returns

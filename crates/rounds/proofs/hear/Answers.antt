@@ -1,6 +1,5 @@
 -- `hear` meets its contract.
-use Rattle.std.proofs.Common.{sym}
-use Rattle.std.proofs.Math.Path.{◌∙◌}
+use Rattle.std.proofs.Common.{sym, ◌∙◌}
 use Rattle.rounds.specs.Ready.{ready, heard_refused, heard_done}
 use Rattle.rounds.proofs.hear.Goals as goal
 

@@ -1,5 +1,5 @@
 -- `refusal` meets its contract.
-use Rattle.std.specs.Prelude.{refl}
+use Rattle.std.proofs.Common.{refl}
 use Rattle.rounds.specs.Rounds.{round_refusal}
 use Rattle.rounds.proofs.refusal.Goals as goal
 

@@ -1,6 +1,6 @@
 -- `in_order` meets its contract.
 use Rattle.std.proofs.lemmas.Bool.{not-true, not-false}
-use Rattle.std.specs.Prelude.{refl}
+use Rattle.std.proofs.Common.{refl}
 use Rattle.sheet.specs.Sheet.{in_order}
 use Rattle.sheet.proofs.in_order.Goals as goal
 

@@ -1,5 +1,5 @@
 -- `mark_fits` meets its contract.
-use Rattle.std.specs.Prelude.{refl}
+use Rattle.std.proofs.Common.{refl}
 use Rattle.sheet.specs.Sheet.{mark_fits}
 use Rattle.sheet.proofs.mark_fits.Goals as goal
 

@@ -1,5 +1,5 @@
 -- `one_if_unsound` meets its contract.
-use borrow.Author.Tests.{eq-eqb, ne_eqb}
+use Rattle.std.proofs.Common.{eq-eqb, ne_eqb}
 use Rattle.sheet.specs.Sheet.{unsound}
 use Rattle.sheet.proofs.one_if_unsound.Goals as goal
 

@@ -1,8 +1,5 @@
 -- `refusal` meets its contract.
-use Rattle.std.proofs.Common.{ap₂}
-use Rattle.std.proofs.Math.Path.{◌∙◌}
-use Rattle.std.specs.Prelude.{ℕ}
-use borrow.Author.Tests.{lt-ltb, le-ltb, eq-eqb, ne_eqb}
+use Rattle.std.proofs.Common.{ap₂, ◌∙◌, ℕ, lt-ltb, le-ltb, eq-eqb, ne_eqb}
 use Rattle.sizes.specs.Sizes.{refusal as refusal_of_sizes}
 use Rattle.sheet.specs.Sheet.{refusal}
 use Rattle.sheet.proofs.refusal.Goals as goal

@@ -1,5 +1,5 @@
 -- `refusal_of_marks` meets its contract.
-use Rattle.std.specs.Prelude.{refl}
+use Rattle.std.proofs.Common.{refl}
 use Rattle.sheet.specs.Sheet.{refusal_of_marks}
 use Rattle.sheet.proofs.refusal_of_marks.Goals as goal
 

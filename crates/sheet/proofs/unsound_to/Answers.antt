@@ -1,6 +1,5 @@
 -- `unsound_to` meets its contract.
-use Prim.Native.Nat.{◌+◌}
-use Rattle.std.proofs.Common.{arith}
+use Rattle.std.proofs.Common.{◌+◌, arith}
 use Rattle.lists.specs.Loops.{counted_none, counted_more, counted_done, bit_most}
 use Rattle.sheet.specs.Sheet.{unsound, unsound_to}
 use Rattle.sheet.proofs.unsound_to.Goals as goal

@@ -1,7 +1,5 @@
 -- `blocks` meets its contract, for each d that there is.
-use Rattle.std.proofs.Math.Path.{◌≡◌}
-use Prim.Native.Nat.{ℕ, ◌+◌, ◌/◌}
-use Rattle.std.proofs.Common.{arith}
+use Rattle.std.proofs.Common.{◌≡◌, ℕ, ◌+◌, ◌/◌, arith}
 use Rattle.sizes.specs.Sizes.{degree, blocks}
 use Rattle.sizes.specs.Laws.{degree_small}
 use Rattle.sizes.proofs.blocks.Goals as goal

@@ -1,7 +1,5 @@
 -- `degree` meets its contract: in each arm the formula gives its number.
-use Rattle.std.proofs.Math.Path.{◌≡◌}
-use Rattle.std.proofs.Common.{sym, arith}
-use Prim.Native.Nat.{ℕ, ◌-◌, ◌/◌, ◌≤◌}
+use Rattle.std.proofs.Common.{◌≡◌, sym, arith, ℕ, ◌-◌, ◌/◌, ◌≤◌}
 use Rattle.sizes.specs.Sizes.{degree}
 use Rattle.sizes.specs.Laws.{faults_formula, degree_formula, degree_past}
 use Rattle.sizes.proofs.degree.Goals as goal

@@ -1,6 +1,5 @@
 -- `refusal` meets its contract: the tests in their order.
-use Rattle.std.proofs.Common.{sym}
-use Rattle.std.proofs.Math.Path.{◌∙◌}
+use Rattle.std.proofs.Common.{sym, ◌∙◌}
 use Rattle.sizes.specs.Sizes.{refusal}
 use Rattle.sizes.proofs.refusal.Goals as goal
 

@@ -1,5 +1,5 @@
 -- `column` meets its contract.
-use Rattle.std.specs.Prelude.{refl}
+use Rattle.std.proofs.Common.{refl}
 use Rattle.state_bytes.specs.Layout.{column_of}
 use Rattle.state_bytes.proofs.column.Goals as goal
 

@@ -1,6 +1,5 @@
 -- `decode` meets its contract.
-use Rattle.std.proofs.Common.{ap}
-use Rattle.std.proofs.Math.Path.{◌∙◌}
+use Rattle.std.proofs.Common.{ap, ◌∙◌}
 use Rattle.state_bytes.specs.Layout.{column_of, decode}
 use Rattle.state_bytes.proofs.decode.Goals as goal
 

@@ -1,6 +1,5 @@
 -- `encode` meets its contract.
-use Rattle.std.proofs.Common.{sym}
-use Rattle.std.proofs.Math.Path.{◌∙◌}
+use Rattle.std.proofs.Common.{sym, ◌∙◌}
 use Rattle.messages.specs.Laws.{accepted, if_refused, if_done}
 use Rattle.state_bytes.proofs.encode.Goals as goal
 

@@ -1,7 +1,6 @@
 -- `is_state` meets its contract.
-use Rattle.std.proofs.Common.{sym}
-use Rattle.std.proofs.Math.Path.{◌∙◌}
-use borrow.Author.Tests.{eq-eqb, ne_eqb, not-true, not-false}
+use Rattle.std.proofs.Common.{sym, ◌∙◌, eq-eqb, ne_eqb}
+use borrow.Author.Tests.{not-true, not-false}
 use Rattle.state_bytes.specs.Layout.{is_state}
 use Rattle.state_bytes.proofs.is_state.Goals as goal
 

@@ -1,5 +1,5 @@
 -- `main` meets its contract: it ends, since its loop counts.
-use Prim.Native.Nat.{◌≤◌}
+use Rattle.std.proofs.Common.{◌≤◌}
 use Rattle.wall_corpus.proofs.main.Given as goal
 
 abbrev pub invariant-loop : goal.invariant-loop

@@ -1,7 +1,5 @@
 -- `outcomes_of` meets its contract.
-use Rattle.std.proofs.Common.{sym, ap, ap₂}
-use Rattle.std.proofs.Math.Path.{◌∙◌}
-use Rattle.std.specs.Prelude.{replicate}
+use Rattle.std.proofs.Common.{sym, ap, ap₂, ◌∙◌, replicate}
 use Rattle.wall_run.specs.declared.Outcomes.{Outcomes}
 use Rattle.wall_run.specs.Run.{in_places, settled, refused}
 use Rattle.wall_run.specs.Row.{accepted_run, run_refused, run_settled}

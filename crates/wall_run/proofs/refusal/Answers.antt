@@ -1,6 +1,5 @@
 -- `refusal` meets its contract.
-use Rattle.std.specs.Prelude.{refl}
-use Rattle.std.proofs.Common.{arith}
+use Rattle.std.proofs.Common.{refl, arith}
 use Rattle.wall_run.specs.Run.{refusal}
 use Rattle.protocols.specs.Laws.{line_in_le}
 use Rattle.wall_run.proofs.refusal.Goals as goal

@@ -1,6 +1,5 @@
 -- `unpack` meets its contract: it ends, and writes within the slice, whose length stays as it was.
-use Rattle.std.specs.Prelude.{refl}
-use Rattle.std.proofs.Common.{arith, length-set}
+use Rattle.std.proofs.Common.{refl, arith, length-set}
 use Rattle.call_corpus.proofs.reading.unpack.Goals as goal
 
 pub loop-i-init : goal.loop-i-init

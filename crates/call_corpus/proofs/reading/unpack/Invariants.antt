@@ -1,7 +1,5 @@
 -- `unpack` meets its contract: it ends, and writes within the slice, whose length stays as it was.
-use Rattle.std.proofs.Math.Path.{◌≡◌}
-use Prim.Native.Nat.{◌≤◌}
-use Rattle.std.specs.Prelude.{length}
+use Rattle.std.proofs.Common.{◌≡◌, ◌≤◌, length}
 use Rattle.call_corpus.proofs.reading.unpack.Given as goal
 
 abbrev pub invariant-loop-i : goal.invariant-loop-i

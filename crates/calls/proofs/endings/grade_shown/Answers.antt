@@ -1,7 +1,5 @@
 -- `endings::grade_shown` meets its contract.
-use Rattle.std.specs.Prelude.{refl}
-use Rattle.std.proofs.Common.{sym}
-use Rattle.std.proofs.Math.Path.{◌∙◌}
+use Rattle.std.proofs.Common.{refl, sym, ◌∙◌}
 use Rattle.agreement.specs.Calls.{grade_shown}
 use Rattle.calls.proofs.endings.grade_shown.Goals as goal
 

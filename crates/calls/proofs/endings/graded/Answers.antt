@@ -1,7 +1,5 @@
 -- `endings::graded` meets its contract.
-use Rattle.std.proofs.Math.Path.{◌≡◌}
-use Rattle.std.specs.Prelude.{refl, ℕ}
-use borrow.Author.Tests.{eq-eqb, ne_eqb}
+use Rattle.std.proofs.Common.{◌≡◌, refl, ℕ, eq-eqb, ne_eqb}
 use Rattle.agreement.specs.declared.Outcome.{Outcome}
 use Rattle.agreement.specs.declared.Outcome.TheVariants.{Nothing, Record}
 use Rattle.agreement.specs.declared.Reply.TheVariants as R
@@ -19,8 +17,8 @@ returns-then-grade-eq2 c = two _ _ c.if-grade-eq2.true
 
 pub returns-in-Nothing : goal.returns-in-Nothing
 unfolding grade_in
-returns-in-Nothing c = rw (c.enum_told-1.given.1, ne_eqb _ _ c.if-grade-eq2.false) refl
+returns-in-Nothing c = rw (c.in-Nothing.is, ne_eqb _ _ c.if-grade-eq2.false) refl
 
 pub returns-in-Record : goal.returns-in-Record
 unfolding grade_in
-returns-in-Record c = rw (c.enum_told-in-Record-1.given.1, ne_eqb _ _ c.if-grade-eq2.false) refl
+returns-in-Record c = rw (c.in-Record.is, ne_eqb _ _ c.if-grade-eq2.false) refl

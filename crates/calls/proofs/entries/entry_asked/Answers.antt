@@ -1,5 +1,5 @@
 -- `entries::entry_asked` meets its contract.
-use Rattle.std.specs.Prelude.{refl}
+use Rattle.std.proofs.Common.{refl}
 use Rattle.agreement.specs.Entries.{entry_asked}
 use Rattle.calls.proofs.entries.entry_asked.Goals as goal
 

@@ -1,5 +1,5 @@
 -- `entries::mark_only` meets its contract.
-use Rattle.std.specs.Prelude.{refl}
+use Rattle.std.proofs.Common.{refl}
 use Rattle.agreement.specs.Entries.{mark_only}
 use Rattle.calls.proofs.entries.mark_only.Goals as goal
 

@@ -1,5 +1,5 @@
 -- `entries::sound_entry` meets its contract.
-use Rattle.std.specs.Prelude.{refl}
+use Rattle.std.proofs.Common.{refl}
 use Rattle.agreement.specs.Entries.{sound_entry}
 use Rattle.calls.proofs.entries.sound_entry.Goals as goal
 

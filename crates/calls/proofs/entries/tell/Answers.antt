@@ -1,6 +1,5 @@
 -- `entries::tell` meets its contract.
-use Rattle.std.proofs.Common.{sym, ap}
-use Rattle.std.proofs.Math.Path.{◌∙◌}
+use Rattle.std.proofs.Common.{sym, ap, ◌∙◌}
 use Rattle.agreement.specs.declared.Replied.{Replied}
 use Rattle.agreement.specs.declared.Entry.{Entry}
 use Rattle.agreement.specs.declared.Told.{Told}
@@ -13,10 +12,10 @@ unfolding sound_entry
 returns-in-Ended c =
     let asked = c.outcome-asked.ensures in
     let entry = c.entry_asked.ensures ∙ ap entry_asked asked in
-    ap {B = Told} (λ (e : Entry). record { refusal = 0; entry = e }) entry ∙ told_ended _ _ (sym (ap (λ (r : Replied). r.reply) asked) ∙ c.enum_told-1.given.1)
+    ap {B = Told} (λ (e : Entry). record { refusal = 0; entry = e }) entry ∙ told_ended _ _ (sym (ap (λ (r : Replied). r.reply) asked) ∙ c.in-Ended.is)
 
 pub returns-in-Refused : goal.returns-in-Refused
 returns-in-Refused c =
     let asked = c.outcome-asked.ensures in
-    let why = c.reply-1.given.0.0 in
-    ap {B = Told} (λ (e : Entry). record { refusal = why; entry = e }) c.mark_only.ensures ∙ told_refused _ _ (sym (ap (λ (r : Replied). r.reply) asked) ∙ c.reply-1.given.1)
+    let why = c.in-Refused.why in
+    ap {B = Told} (λ (e : Entry). record { refusal = why; entry = e }) c.mark_only.ensures ∙ told_refused _ _ (sym (ap (λ (r : Replied). r.reply) asked) ∙ c.in-Refused.is)

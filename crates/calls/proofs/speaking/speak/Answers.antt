@@ -1,6 +1,5 @@
 -- `speaking::speak` meets its contract.
-use Rattle.std.proofs.Common.{sym}
-use Rattle.std.proofs.Math.Path.{◌∙◌}
+use Rattle.std.proofs.Common.{sym, ◌∙◌}
 use Rattle.calls.specs.Answers.{speak_silent, speak_said}
 use Rattle.calls.proofs.speaking.speak.Goals as goal
 

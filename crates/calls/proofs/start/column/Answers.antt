@@ -1,5 +1,5 @@
 -- `start::column` meets its contract.
-use Rattle.std.specs.Prelude.{refl}
+use Rattle.std.proofs.Common.{refl}
 use Rattle.agreement.specs.Column.{fresh_column}
 use Rattle.calls.proofs.start.column.Goals as goal
 

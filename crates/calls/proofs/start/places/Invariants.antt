@@ -1,5 +1,5 @@
 -- `start::places` meets its contract.
-use Rattle.std.proofs.Math.ListN.{get_or}
+use Rattle.std.proofs.Common.{get_or}
 use Rattle.lists.specs.Loops.{Filled}
 use Rattle.calls.proofs.start.places.Given as goal
 

@@ -1,6 +1,5 @@
 -- `start::posted` meets its contract.
-use Rattle.std.specs.Prelude.{refl}
-use borrow.Author.Tests.{eq-eqb, ne_eqb}
+use Rattle.std.proofs.Common.{refl, eq-eqb, ne_eqb}
 use Rattle.lists.specs.Lists.{list_of}
 use Rattle.block.specs.Block.{part}
 use Rattle.calls.proofs.start.posted.Goals as goal

@@ -1,6 +1,5 @@
 -- `start::record_of` meets its contract.
-use Rattle.std.proofs.Common.{sym}
-use Rattle.std.proofs.Math.Path.{◌∙◌}
+use Rattle.std.proofs.Common.{sym, ◌∙◌}
 use Rattle.agreement.specs.Column.{brought}
 use Rattle.calls.proofs.start.record_of.Goals as goal
 

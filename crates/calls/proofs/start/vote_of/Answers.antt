@@ -1,7 +1,5 @@
 -- `start::vote_of` meets its contract.
-use Rattle.std.specs.Prelude.{refl}
-use Rattle.std.proofs.Common.{sym}
-use Rattle.std.proofs.Math.Path.{◌∙◌}
+use Rattle.std.proofs.Common.{refl, sym, ◌∙◌}
 use Rattle.agreement.specs.Column.{fresh_vote}
 use Rattle.calls.proofs.start.vote_of.Goals as goal
 

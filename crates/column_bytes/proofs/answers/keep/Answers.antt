@@ -1,7 +1,5 @@
 -- `answers::keep` meets its contract.
-use Rattle.std.proofs.Math.Path.{◌≡◌, ◌∙◌}
-use Rattle.std.proofs.Common.{sym, ap, arith}
-use Rattle.std.specs.Prelude.{ℕ, length}
+use Rattle.std.proofs.Common.{◌≡◌, ◌∙◌, sym, ap, arith, ℕ, length}
 use Rattle.messages.specs.Messages.{refusal}
 use Rattle.messages.specs.Laws.{accepted, if_refused}
 use Rattle.state_bytes.specs.Layout.{state_length}

@@ -1,8 +1,5 @@
 -- `answers::state_refusal` meets its contract.
-use borrow.Author.Tests.{eq-eqb, ne_eqb}
-use Rattle.std.specs.Prelude.{refl}
-use Rattle.std.proofs.Common.{sym}
-use Rattle.std.proofs.Math.Path.{◌∙◌}
+use Rattle.std.proofs.Common.{eq-eqb, ne_eqb, refl, sym, ◌∙◌}
 use Rattle.state_bytes.specs.Layout.{state_length}
 use Rattle.column_bytes.specs.Calls.{state_refusal}
 use Rattle.column_bytes.proofs.answers.state_refusal.Goals as goal

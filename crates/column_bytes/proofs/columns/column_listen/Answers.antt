@@ -1,6 +1,5 @@
 -- `columns::column_listen` meets its contract.
-use Rattle.std.proofs.Common.{sym, ap}
-use Rattle.std.proofs.Math.Path.{◌∙◌}
+use Rattle.std.proofs.Common.{sym, ap, ◌∙◌}
 use Rattle.agreement.specs.declared.Column.{Column}
 use Rattle.agreement.specs.Calls.{listen}
 use Rattle.column_bytes.specs.Calls.{listen_answer, listen_state}

@@ -1,7 +1,5 @@
 -- `columns::column_outcome` meets its contract.
-use Rattle.std.proofs.Math.Path.{◌≡◌, ◌∙◌}
-use Rattle.std.specs.Prelude.{refl, ℕ, length}
-use Rattle.std.proofs.Common.{sym, ap}
+use Rattle.std.proofs.Common.{◌≡◌, ◌∙◌, refl, ℕ, length, sym, ap}
 use Rattle.messages.specs.Messages.{refusal}
 use Rattle.messages.specs.Laws.{accepted, if_refused, if_done}
 use Rattle.agreement.specs.declared.Column.{Column}

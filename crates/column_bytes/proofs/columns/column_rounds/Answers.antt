@@ -1,7 +1,5 @@
 -- `columns::column_rounds` meets its contract.
-use Rattle.std.specs.Prelude.{refl}
-use Rattle.std.proofs.Common.{sym, arith, lt-ltb, le-ltb}
-use Rattle.std.proofs.Math.Path.{◌∙◌}
+use Rattle.std.proofs.Common.{refl, sym, arith, lt-ltb, le-ltb, ◌∙◌}
 use Rattle.protocols.specs.Protocols.{protocol_count}
 use Rattle.sizes.specs.Laws.{inside}
 use Rattle.column_bytes.specs.Calls.{rounds_of}

@@ -1,7 +1,5 @@
 -- `columns::column_speak` meets its contract.
-use Rattle.std.specs.Prelude.{refl}
-use Rattle.std.proofs.Common.{sym, ap}
-use Rattle.std.proofs.Math.Path.{◌∙◌}
+use Rattle.std.proofs.Common.{refl, sym, ap, ◌∙◌}
 use Rattle.agreement.specs.declared.Column.{Column}
 use Rattle.agreement.specs.Calls.{speak, written}
 use Rattle.column_bytes.specs.Calls.{speak_answer, speak_state, speak_out}

@@ -1,7 +1,5 @@
 -- `columns::column_values` meets its contract.
-use Rattle.std.specs.Prelude.{refl}
-use Rattle.std.proofs.Common.{sym, arith}
-use Rattle.std.proofs.Math.Path.{◌∙◌}
+use Rattle.std.proofs.Common.{refl, sym, arith, ◌∙◌}
 use Rattle.sizes.specs.Laws.{inside}
 use Rattle.column_bytes.specs.Calls.{values_of}
 use Rattle.column_bytes.specs.Laws.{runs_some}

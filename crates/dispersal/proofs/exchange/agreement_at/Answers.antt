@@ -1,7 +1,5 @@
 -- `exchange::agreement_at` meets its contract.
-use Rattle.std.proofs.Common.{sym, arith}
-use Rattle.std.proofs.Math.Path.{◌∙◌}
-use Prim.Native.Nat.{◌*◌}
+use Rattle.std.proofs.Common.{sym, arith, ◌∙◌, ◌*◌}
 use Rattle.std.proofs.lemmas.Bool.{not-true, not-false}
 use Rattle.lists.specs.Rows.{row_fits}
 use Rattle.dispersal.specs.Laws.{agrees_past, agrees_itself, agrees_not, agrees_other}

@@ -1,7 +1,5 @@
 -- `exchange::flags` meets its contract.
-use Rattle.std.specs.Prelude.{refl, replicate}
-use Rattle.std.proofs.Math.Path.{◌∙◌}
-use Rattle.std.proofs.Common.{arith}
+use Rattle.std.proofs.Common.{refl, replicate, ◌∙◌, arith}
 use Rattle.lists.specs.Loops.{filled_none, filled_more, filled_done}
 use Rattle.field.specs.Field.{blank}
 use Rattle.sizes.specs.Laws.{blocks_le, accepted, few_blocks}

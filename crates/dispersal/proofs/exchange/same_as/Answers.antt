@@ -1,6 +1,5 @@
 -- `exchange::same_as` meets its contract.
-use Rattle.std.specs.Prelude.{refl}
-use Rattle.std.proofs.Common.{arith}
+use Rattle.std.proofs.Common.{refl, arith}
 use Rattle.lists.specs.Loops.{tested_none, tested_more, tested_done}
 use Rattle.dispersal.specs.Laws.{same_as}
 use Rattle.dispersal.proofs.exchange.same_as.Goals as goal

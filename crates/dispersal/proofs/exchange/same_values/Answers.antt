@@ -1,7 +1,5 @@
 -- `exchange::same_values` meets its contract.
-use Rattle.std.specs.Prelude.{refl, true, false}
-use Rattle.std.proofs.Common.{sym, arith}
-use borrow.Author.Tests.{eq-eqb, ne_eqb}
+use Rattle.std.proofs.Common.{refl, true, false, sym, arith, eq-eqb, ne_eqb}
 use Rattle.lists.specs.Loops.{checked_none, checked_more, checked_fails, checked_done}
 use Rattle.codeword.specs.Codeword.{across}
 use Rattle.dispersal.specs.Laws.{same_at}

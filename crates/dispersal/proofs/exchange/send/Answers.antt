@@ -1,6 +1,5 @@
 -- `exchange::send` meets its contract.
-use Rattle.std.proofs.Common.{sym}
-use Rattle.std.proofs.Math.Path.{◌∙◌}
+use Rattle.std.proofs.Common.{sym, ◌∙◌}
 use Rattle.messages.specs.Laws.{if_refused, if_done, accepted as messages_accepted}
 use Rattle.dispersal.proofs.exchange.send.Goals as goal
 

@@ -1,7 +1,5 @@
 -- `exchange::send_all` meets its contract.
-use Rattle.std.specs.Prelude.{refl, replicate}
-use Rattle.std.proofs.Math.Path.{◌∙◌}
-use Rattle.std.proofs.Common.{arith}
+use Rattle.std.proofs.Common.{refl, replicate, ◌∙◌, arith}
 use Rattle.lists.specs.Loops.{rowed_none, rowed_fits, rowed_more, rowed_room, rowed_done}
 use Rattle.field.specs.Field.{blank}
 use Rattle.sizes.specs.Laws.{blocks_le, accepted, few_blocks, column_of_lem}

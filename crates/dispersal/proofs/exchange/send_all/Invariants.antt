@@ -1,5 +1,5 @@
 -- `exchange::send_all` meets its contract.
-use Prim.Native.Nat.{◌*◌}
+use Rattle.std.proofs.Common.{◌*◌}
 use Rattle.lists.specs.Loops.{Rowed}
 use Rattle.dispersal.specs.Laws.{paired}
 use Rattle.dispersal.proofs.exchange.send_all.Given as goal

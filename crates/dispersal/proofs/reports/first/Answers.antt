@@ -1,6 +1,5 @@
 -- `reports::first` meets its contract.
-use Prim.Native.Nat.{◌-◌}
-use Rattle.std.proofs.Common.{arith, le-leb}
+use Rattle.std.proofs.Common.{◌-◌, arith, le-leb}
 use Rattle.std.proofs.lemmas.Bool.{lt-leb}
 use Rattle.lists.specs.Lists.{count}
 use Rattle.sizes.specs.Sizes.{faults}

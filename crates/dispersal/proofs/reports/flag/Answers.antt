@@ -1,6 +1,5 @@
 -- `reports::flag` meets its contract.
-use Rattle.std.proofs.Common.{sym}
-use Rattle.std.specs.Prelude.{false}
+use Rattle.std.proofs.Common.{sym, false}
 use Rattle.std.proofs.Math.ListN.{get_or-eq_default}
 use Rattle.dispersal.proofs.reports.flag.Goals as goal
 

@@ -1,8 +1,5 @@
 -- `reports::flag_of` meets its contract.
-use Rattle.std.proofs.Common.{ap, arith}
-use Rattle.std.proofs.Math.Path.{◌∙◌}
-use Rattle.std.specs.Prelude.{false, ℕ}
-use Rattle.std.proofs.Math.ListN.{get_or}
+use Rattle.std.proofs.Common.{ap, arith, ◌∙◌, false, ℕ, get_or}
 use Rattle.dispersal.specs.Dispersal.{reported}
 use Rattle.dispersal.proofs.reports.flag_of.Goals as goal
 

@@ -1,7 +1,5 @@
 -- `reports::grade` meets its contract.
-use Rattle.std.proofs.Common.{sym, arith, le-leb}
-use Rattle.std.proofs.Math.Path.{◌∙◌}
-use Prim.Native.Nat.{◌+◌, ◌*◌}
+use Rattle.std.proofs.Common.{sym, arith, le-leb, ◌∙◌, ◌+◌, ◌*◌}
 use Rattle.std.proofs.lemmas.Bool.{not-true, not-false, lt-leb}
 use Rattle.sizes.specs.Sizes.{faults}
 use Rattle.sizes.specs.Laws.{faults_le}

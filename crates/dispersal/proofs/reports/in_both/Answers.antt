@@ -1,8 +1,5 @@
 -- `reports::in_both` meets its contract.
-use Rattle.std.proofs.Common.{sym, ap, ap₂, arith}
-use Rattle.std.proofs.Math.Path.{◌∙◌}
-use Rattle.std.specs.Prelude.{Bool}
-use Rattle.std.proofs.Math.Bool.{◌&&◌}
+use Rattle.std.proofs.Common.{sym, ap, ap₂, arith, ◌∙◌, Bool, ◌&&◌}
 use Rattle.lists.specs.Lists.{bit}
 use Rattle.lists.specs.Loops.{counted_none, counted_more, counted_done, bit_most}
 use Rattle.dispersal.specs.Laws.{both_place}

@@ -1,8 +1,5 @@
 -- `reports::received` meets its contract.
-use Rattle.std.proofs.Math.Path.{◌≡◌, ◌∙◌}
-use Rattle.std.specs.Prelude.{refl, false, List, eqb}
-use Prim.Native.Nat.{ℕ, ◌≤◌, ◌<◌}
-use Rattle.std.proofs.Common.{arith, lt-ltb, le-ltb}
+use Rattle.std.proofs.Common.{◌≡◌, ◌∙◌, refl, false, List, eqb, ℕ, ◌≤◌, ◌<◌, arith, lt-ltb, le-ltb}
 use Rattle.std.proofs.Math.ListN.{get_or-replicate}
 use Rattle.lists.specs.Loops.{filled_none, filled_more, filled_rest}
 use Rattle.messages.specs.Messages.{read_report, said, from}

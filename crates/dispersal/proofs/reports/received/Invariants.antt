@@ -1,5 +1,5 @@
 -- `reports::received` meets its contract.
-use Prim.Native.Nat.{◌≤◌}
+use Rattle.std.proofs.Common.{◌≤◌}
 use Rattle.lists.specs.Loops.{Filled}
 use Rattle.messages.specs.Messages.{from}
 use Rattle.dispersal.specs.Dispersal.{report_at}

@@ -1,6 +1,5 @@
 -- `reports::second` meets its contract.
-use Rattle.std.proofs.Common.{sym}
-use Rattle.std.proofs.Math.Path.{◌∙◌}
+use Rattle.std.proofs.Common.{sym, ◌∙◌}
 use Rattle.dispersal.specs.Dispersal.{second_report}
 use Rattle.dispersal.proofs.reports.second.Goals as goal
 

@@ -1,7 +1,5 @@
 -- `reports::sends_second` meets its contract.
-use Rattle.std.proofs.Math.Path.{◌∙◌}
-use Prim.Native.Nat.{◌-◌}
-use Rattle.std.proofs.Common.{arith, le-leb}
+use Rattle.std.proofs.Common.{◌∙◌, ◌-◌, arith, le-leb}
 use Rattle.std.proofs.lemmas.Bool.{lt-leb}
 use Rattle.lists.specs.Lists.{count}
 use Rattle.sizes.specs.Sizes.{faults}

@@ -1,7 +1,5 @@
 -- `decoding::are_bytes` meets its contract.
-use Rattle.std.proofs.Common.{ap, arith}
-use Rattle.std.proofs.Math.Path.{◌∙◌}
-use Prim.Native.Nat.{ℕ, ◌+◌}
+use Rattle.std.proofs.Common.{ap, arith, ◌∙◌, ℕ, ◌+◌}
 use Rattle.lists.specs.Loops.{checked_none, checked_more, checked_fails, checked_done}
 use Rattle.dissemination.specs.Decoding.{is_byte_at, byte_in}
 use Rattle.dissemination.proofs.decoding.are_bytes.Goals as goal

@@ -1,7 +1,5 @@
 -- `decoding::block` meets its contract.
-use Rattle.std.proofs.Common.{sym, ap, arith, length-take-le}
-use Rattle.std.proofs.Math.Path.{◌∙◌}
-use Rattle.std.specs.Prelude.{List, ℕ, length, take}
+use Rattle.std.proofs.Common.{sym, ap, arith, length-take-le, ◌∙◌, List, ℕ, length, take}
 use Rattle.lists.specs.Entries.{length_list_of}
 use Rattle.lists.specs.Lists.{list_of}
 use Rattle.decoder.specs.Decoder.{decoded}

@@ -1,8 +1,5 @@
 -- `decoding::byte_at` meets its contract.
-use Rattle.std.proofs.Common.{ap, mod-lt, arith, lt-ltb, le-ltb}
-use Rattle.std.proofs.Math.Path.{◌∙◌}
-use Prim.Native.Nat.{ℕ, ◌%◌}
-use Rattle.std.proofs.Math.Nat.{div-le_self}
+use Rattle.std.proofs.Common.{ap, mod-lt, arith, lt-ltb, le-ltb, ◌∙◌, ℕ, ◌%◌, div-le_self}
 use Rattle.dissemination.specs.Decoding.{stored_byte}
 use Rattle.dissemination.proofs.decoding.byte_at.Goals as goal
 

@@ -1,6 +1,5 @@
 -- `decoding::decode` meets its contract.
-use Rattle.std.proofs.Common.{sym, arith}
-use Rattle.std.proofs.Math.Path.{◌∙◌}
+use Rattle.std.proofs.Common.{sym, arith, ◌∙◌}
 use Rattle.std.proofs.lemmas.Bool.{not-true, not-false}
 use Rattle.sizes.specs.Laws.{degree_le}
 use Rattle.messages.specs.Laws.{accepted as messages_accepted}

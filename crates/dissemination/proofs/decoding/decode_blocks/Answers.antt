@@ -1,10 +1,6 @@
 -- `decoding::decode_blocks` meets its contract.
 use Rattle.std.proofs.Math.Option.{none}
-use Rattle.std.proofs.Math.Path.{◌≡◌, ◌∙◌}
-use Rattle.std.specs.Prelude.{refl}
-use Rattle.std.proofs.Common.{sym, inl, inr, mul-le-mul, arith}
-use mathlib.Core.List.{[], ◌∷◌}
-use Prim.Native.Nat.{ℕ, ◌+◌}
+use Rattle.std.proofs.Common.{◌≡◌, ◌∙◌, refl, sym, inl, inr, mul-le-mul, arith, [], ◌∷◌, ℕ, ◌+◌}
 use types.Run.{OneOf}
 use denote.Enum.Declared.{tag_of}
 use Rattle.std.proofs.lemmas.Bool.{not-true}
@@ -44,7 +40,7 @@ pub returns-in_default : goal.returns-in_default
 unfolding answer_in
 returns-in_default c = let a = c.args in
     decodes_none a.n a.m _ c.loop-k.k _ (omega (arith, c.blocks-b.ensures))
-    (block_missing a.n a.m _ c.loop-k.k (missed a.n _ _ (rw c.blocks-b.ensures at c.block.ensures) c.in_default.keys2))
+    (block_missing a.n a.m _ c.loop-k.k (missed a.n _ _ (rw c.blocks-b.ensures at c.block.ensures) c.in_default.in_default-own.keys2))
 
 pub overflow_mul-k : goal.overflow_mul-k
 overflow_mul-k c = record { fits = omega (arith, mul-le-mul {n₁ = c.loop-k.k} {m₁ = c.degree.result + 1} {n₂ = 255} {m₂ = 255} (omega (arith, c.blocks-b.ensures, blocks_le c.args.n c.args.m)) (omega (arith, c.degree.ensures, degree_le c.args.n))) }
@@ -53,7 +49,7 @@ pub returns-then-not-are_bytes : goal.returns-then-not-are_bytes
 unfolding answer_in
 returns-then-not-are_bytes c = let a = c.args in
     decodes_none a.n a.m _ c.loop-k.k _ (omega (arith, c.blocks-b.ensures))
-    (block_bytes a.n a.m _ c.loop-k.k _ (sym (rw c.blocks-b.ensures at c.block.ensures) ∙ c.c-1.given.1)
+    (block_bytes a.n a.m _ c.loop-k.k _ (sym (rw c.blocks-b.ensures at c.block.ensures) ∙ c.in-Polynomial.is)
     ∙ sym (rw c.degree.ensures at c.are_bytes.ensures) ∙ not-true _ c.if-not-are_bytes.true)
 
 pub overflow_cast-at : goal.overflow_cast-at
@@ -98,7 +94,7 @@ bounds-coefficients-at-in-loop-k-3 c = omega (arith, c.blocks-b.ensures, few_blo
 pub loop-k-preserved : goal.loop-k-preserved
 unfolding answer_in
 loop-k-preserved c = let a = c.args in
-    let e = sym (rw c.blocks-b.ensures at c.block.ensures) ∙ c.c-1.given.1 in
+    let e = sym (rw c.blocks-b.ensures at c.block.ensures) ∙ c.in-Polynomial.is in
     done_more a.n a.m _ _ _ c.loop-k.k _ _ c.loop-k.invariant (omega (arith, c.blocks-b.ensures)) e
     ((rw c.degree.ensures at c.are_bytes.ensures) ∙ sym (block_bytes a.n a.m _ c.loop-k.k _ e)) c.if-not-are_bytes.false
 

@@ -1,7 +1,5 @@
 -- `decoding::send` meets its contract.
-use Rattle.std.proofs.Math.Path.{◌≡◌, ◌∙◌}
-use Rattle.std.proofs.Common.{sym, ap, arith}
-use Rattle.std.specs.Prelude.{List, ℕ, length}
+use Rattle.std.proofs.Common.{◌≡◌, ◌∙◌, sym, ap, arith, List, ℕ, length}
 use Rattle.sizes.specs.Sizes.{blocks}
 use Rattle.sizes.specs.Laws.{blocks_le, columns_of}
 use Rattle.messages.specs.Messages.{to_all_refusal, said}

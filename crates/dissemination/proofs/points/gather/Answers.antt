@@ -1,8 +1,6 @@
 -- `points::gather` meets its contract.
-use Rattle.std.proofs.Common.{sym, ap, arith}
-use Rattle.std.proofs.Math.Path.{◌∙◌}
-use Rattle.std.specs.Prelude.{List, ℕ, length}
-use Rattle.std.proofs.Math.ListN.{get_or, get_or-replicate}
+use Rattle.std.proofs.Common.{sym, ap, arith, ◌∙◌, List, ℕ, length, get_or}
+use Rattle.std.proofs.Math.ListN.{get_or-replicate}
 use Rattle.lists.specs.Loops.{filled_none, filled_more, filled_rest}
 use Rattle.lists.specs.Rows.{row_fits}
 use Rattle.field.specs.Field.{blank}

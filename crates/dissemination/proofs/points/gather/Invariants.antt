@@ -1,5 +1,5 @@
 -- `points::gather` meets its contract.
-use Prim.Native.Nat.{◌≤◌}
+use Rattle.std.proofs.Common.{◌≤◌}
 use Rattle.lists.specs.Loops.{Filled}
 use Rattle.dissemination.specs.Laws.{heard_of}
 use Rattle.dissemination.specs.Kept.{placed}

@@ -1,8 +1,5 @@
 -- `points::heard_at` meets its contract.
-use Rattle.std.proofs.Math.Path.{◌≡◌}
-use Prim.Native.Nat.{◌+◌, ◌-◌}
-use Rattle.std.proofs.Common.{arith}
-use borrow.Author.Tests.{eq-eqb, ne_eqb}
+use Rattle.std.proofs.Common.{◌≡◌, ◌+◌, ◌-◌, arith, eq-eqb, ne_eqb}
 use Rattle.dissemination.specs.Laws.{heard_of}
 use Rattle.dissemination.proofs.points.heard_at.Goals as goal
 

@@ -1,6 +1,5 @@
 -- `points::kept` meets its contract.
-use Rattle.std.proofs.Common.{sym}
-use Rattle.std.proofs.Math.Path.{◌∙◌}
+use Rattle.std.proofs.Common.{sym, ◌∙◌}
 use Rattle.messages.specs.Laws.{accepted as messages_accepted}
 use Rattle.dissemination.specs.Laws.{kept_refused, kept_done}
 use Rattle.dissemination.proofs.points.kept.Goals as goal

@@ -1,8 +1,5 @@
 -- `points::kept_point` meets its contract.
-use Rattle.std.specs.Prelude.{refl}
-use Rattle.std.proofs.Math.Path.{◌∙◌}
-use Rattle.std.proofs.Common.{arith}
-use Rattle.std.proofs.Math.ListN.{get_or}
+use Rattle.std.proofs.Common.{refl, ◌∙◌, arith, get_or}
 use Rattle.sizes.specs.Laws.{faults_le}
 use Rattle.messages.specs.Messages.{from}
 use Rattle.dissemination.specs.Kept.{weight_le, better_is, placed_at, weight_placed, best_none, best_more, best_done, settled}

@@ -1,7 +1,5 @@
 -- `points::kept_points` meets its contract.
-use Rattle.std.proofs.Common.{ap, arith}
-use Rattle.std.proofs.Math.Path.{◌∙◌}
-use Rattle.std.specs.Prelude.{List, ℕ}
+use Rattle.std.proofs.Common.{ap, arith, ◌∙◌, List, ℕ}
 use Rattle.lists.specs.Loops.{filled_none, filled_more, filled_done}
 use Rattle.sizes.specs.Laws.{blocks_le, accepted, few_blocks}
 use Rattle.messages.specs.Messages.{said}

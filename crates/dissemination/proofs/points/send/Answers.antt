@@ -1,7 +1,5 @@
 -- `points::send` meets its contract.
-use Rattle.std.proofs.Common.{sym, ap}
-use Rattle.std.proofs.Math.Path.{◌∙◌}
-use Rattle.std.specs.Prelude.{Bool, List, ℕ, length}
+use Rattle.std.proofs.Common.{sym, ap, ◌∙◌, Bool, List, ℕ, length}
 use Rattle.std.proofs.lemmas.Bool.{not-true, not-false}
 use Rattle.messages.specs.Messages.{unless_refused}
 use Rattle.messages.specs.Laws.{if_refused, if_done, accepted as messages_accepted}

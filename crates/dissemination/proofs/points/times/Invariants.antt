@@ -1,5 +1,5 @@
 -- `points::times` meets its contract.
-use Rattle.std.specs.Prelude.{eqb}
+use Rattle.std.proofs.Common.{eqb}
 use Rattle.lists.specs.Loops.{Counted}
 use Rattle.messages.specs.Messages.{from}
 use Rattle.dissemination.proofs.points.times.Given as goal

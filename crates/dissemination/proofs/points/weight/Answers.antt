@@ -1,6 +1,5 @@
 -- `points::weight` meets its contract.
-use Rattle.std.proofs.Math.Path.{◌∙◌}
-use Rattle.std.proofs.Common.{lt-ltb, le-ltb}
+use Rattle.std.proofs.Common.{◌∙◌, lt-ltb, le-ltb}
 use Rattle.dissemination.specs.Kept.{weight}
 use Rattle.dissemination.proofs.points.weight.Goals as goal
 

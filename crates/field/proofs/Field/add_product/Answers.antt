@@ -1,6 +1,5 @@
 -- `Field::add_product` meets its contract: the sum fits 16 bits where b is small, else 32, and one division is as good as two.
-use Rattle.std.proofs.Common.{ap, mul-le-mul, arith}
-use Prim.Native.Nat.{ℕ, ◌*◌, ◌%◌, ◌≤◌}
+use Rattle.std.proofs.Common.{ap, mul-le-mul, arith, ℕ, ◌*◌, ◌%◌, ◌≤◌}
 use Rattle.field.specs.Field.{element}
 use Rattle.field.specs.Congruence.{scale, reduce}
 use Rattle.field.proofs.Field.add_product.Goals as goal

@@ -1,6 +1,5 @@
 -- `Field::inverse` meets its contract: by the table's rule, the entry read is the inverse.
-use Rattle.std.proofs.Common.{ap, sym, arith}
-use Rattle.std.proofs.Math.Path.{◌∙◌}
+use Rattle.std.proofs.Common.{ap, sym, arith, ◌∙◌}
 use Rattle.field.specs.Field.{element, of}
 use Rattle.field.specs.Laws.{inverse_of, inverse_zero, table_entry}
 use Rattle.field.proofs.Field.inverse.Goals as goal

@@ -1,8 +1,5 @@
 -- `Field::near` meets its contract: a reduced number times a 16-bit one is at most 256 times 65535.
-use Rattle.std.specs.Prelude.{refl}
-use Rattle.std.proofs.Math.Path.{◌∙◌}
-use Prim.Native.Nat.{ℕ, ◌*◌, ◌%◌, ◌≤◌}
-use Rattle.std.proofs.Common.{mul-le-mul, arith}
+use Rattle.std.proofs.Common.{refl, ◌∙◌, ℕ, ◌*◌, ◌%◌, ◌≤◌, mul-le-mul, arith}
 use Rattle.field.specs.Congruence.{reduce, times, near}
 use Rattle.field.proofs.Field.near.Goals as goal
 

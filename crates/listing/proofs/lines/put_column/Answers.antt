@@ -1,5 +1,5 @@
 -- `lines::put_column` meets its contract.
-use borrow.Author.Tests.{eq-eqb, ne_eqb}
+use Rattle.std.proofs.Common.{eq-eqb, ne_eqb}
 use Rattle.listing.specs.Listing.{column_line}
 use Rattle.listing.proofs.lines.put_column.Goals as goal
 

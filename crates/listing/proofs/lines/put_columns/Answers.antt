@@ -1,6 +1,5 @@
 -- `lines::put_columns` meets its contract.
-use Rattle.std.specs.Prelude.{refl}
-use Rattle.std.proofs.Common.{arith}
+use Rattle.std.proofs.Common.{refl, arith}
 use Rattle.listing.specs.Writing.{joins_none, joins_more, joins_done}
 use Rattle.listing.specs.Listing.{column_lines}
 use Rattle.listing.proofs.lines.put_columns.Goals as goal

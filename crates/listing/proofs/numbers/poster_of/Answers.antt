@@ -1,6 +1,5 @@
 -- `numbers::poster_of` meets its contract.
-use Rattle.std.specs.Prelude.{refl}
-use Rattle.std.proofs.Common.{lt-ltb, le-ltb}
+use Rattle.std.proofs.Common.{refl, lt-ltb, le-ltb}
 use Rattle.listing.specs.Number.{number}
 use Rattle.listing.proofs.numbers.poster_of.Goals as goal
 

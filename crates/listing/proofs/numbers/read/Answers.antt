@@ -1,8 +1,5 @@
 -- `numbers::read` meets its contract.
-use Rattle.std.specs.Prelude.{refl, ℕ}
-use Rattle.std.proofs.Common.{ap, add-one, arith}
-use Rattle.std.proofs.Math.Path.{◌∙◌}
-use Rattle.std.proofs.Math.ListN.{get_or}
+use Rattle.std.proofs.Common.{refl, ℕ, ap, add-one, arith, ◌∙◌, get_or}
 use Rattle.listing.specs.Number.{with_digit, read_to}
 use Rattle.listing.proofs.numbers.read.Goals as goal
 

@@ -1,7 +1,5 @@
 -- `numbers::read` meets its contract.
-use Rattle.std.proofs.Math.Path.{◌≡◌}
-use Prim.Native.Nat.{◌≤◌}
-use Rattle.std.specs.Prelude.{length}
+use Rattle.std.proofs.Common.{◌≡◌, ◌≤◌, length}
 use Rattle.listing.specs.Number.{read_to}
 use Rattle.listing.proofs.numbers.read.Given as goal
 

@@ -1,6 +1,5 @@
 -- `numbers::with_digit` meets its contract.
-use Rattle.std.specs.Prelude.{refl}
-use Rattle.std.proofs.Common.{arith, le-leb, lt-ltb, le-ltb}
+use Rattle.std.proofs.Common.{refl, arith, le-leb, lt-ltb, le-ltb}
 use Rattle.std.proofs.lemmas.Bool.{lt-leb}
 use Rattle.listing.specs.Number.{with_digit}
 use Rattle.listing.proofs.numbers.with_digit.Goals as goal

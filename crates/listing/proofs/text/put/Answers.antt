@@ -1,6 +1,5 @@
 -- `text::put` meets its contract.
-use Rattle.std.specs.Prelude.{refl}
-use Rattle.std.proofs.Common.{arith}
+use Rattle.std.proofs.Common.{refl, arith}
 use Rattle.listing.specs.Writing.{joins_none, joins_more, joins_done}
 use Rattle.listing.specs.Laws.{letter, word_is}
 use Rattle.listing.proofs.text.put.Goals as goal

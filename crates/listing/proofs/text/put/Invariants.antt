@@ -1,5 +1,5 @@
 -- `text::put` meets its contract.
-use Rattle.std.specs.Prelude.{length}
+use Rattle.std.proofs.Common.{length}
 use Rattle.listing.specs.Writing.{Joins}
 use Rattle.listing.specs.Laws.{letter}
 use Rattle.listing.proofs.text.put.Given as goal

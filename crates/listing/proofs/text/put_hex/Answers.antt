@@ -1,6 +1,5 @@
 -- `text::put_hex` meets its contract.
-use Rattle.std.proofs.Math.Path.{◌≡◌}
-use Prim.Native.Nat.{◌/◌}
+use Rattle.std.proofs.Common.{◌≡◌, ◌/◌}
 use Rattle.listing.specs.Writing.{puts_more}
 use Rattle.listing.specs.Listing.{hex_digit, hex}
 use Rattle.listing.proofs.text.put_hex.Goals as goal

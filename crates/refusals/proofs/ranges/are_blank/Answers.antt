@@ -1,6 +1,5 @@
 -- `ranges::are_blank` meets its contract.
-use Rattle.std.specs.Prelude.{refl}
-use Rattle.std.proofs.Common.{arith}
+use Rattle.std.proofs.Common.{refl, arith}
 use Rattle.lists.specs.Loops.{tested_none, tested_more, tested_done}
 use Rattle.refusals.proofs.ranges.are_blank.Goals as goal
 

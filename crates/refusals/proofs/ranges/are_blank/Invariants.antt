@@ -1,5 +1,5 @@
 -- `ranges::are_blank` meets its contract.
-use Rattle.std.specs.Prelude.{eqb}
+use Rattle.std.proofs.Common.{eqb}
 use Rattle.lists.specs.Loops.{Tested}
 use Rattle.field.specs.Field.{blank}
 use Rattle.messages.specs.Messages.{said}

@@ -1,6 +1,5 @@
 -- `ranges::arrays_fit` meets its contract.
-use Rattle.std.proofs.Common.{sym}
-use Rattle.std.proofs.Math.Path.{◌∙◌}
+use Rattle.std.proofs.Common.{sym, ◌∙◌}
 use Rattle.std.proofs.lemmas.Bool.{not-true, not-false}
 use Rattle.agreement.specs.Column.{arrays_fit}
 use Rattle.refusals.proofs.ranges.arrays_fit.Goals as goal

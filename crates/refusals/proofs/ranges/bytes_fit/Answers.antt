@@ -1,6 +1,5 @@
 -- `ranges::bytes_fit` meets its contract.
-use Rattle.std.proofs.Common.{arith, le-ltb, lt→ltb}
-use Rattle.std.specs.Prelude.{ltb}
+use Rattle.std.proofs.Common.{arith, le-ltb, lt→ltb, ltb}
 use Rattle.lists.specs.Loops.{tested_from, tested_more, tested_done}
 use Rattle.lists.specs.Tests.{or_left}
 use Rattle.agreement.specs.Column.{byte_fits}

@@ -1,5 +1,5 @@
 -- `ranges::bytes_fit` meets its contract.
-use Prim.Native.Nat.{◌≤◌}
+use Rattle.std.proofs.Common.{◌≤◌}
 use Rattle.lists.specs.Loops.{Tested}
 use Rattle.agreement.specs.Column.{byte_fits}
 use Rattle.refusals.proofs.ranges.bytes_fit.Given as goal

@@ -1,8 +1,6 @@
 -- `ranges::fits` meets its contract.
-use Rattle.std.proofs.Common.{sym, eqb→eq}
-use Rattle.std.proofs.Math.Path.{◌∙◌}
+use Rattle.std.proofs.Common.{sym, eqb→eq, ◌∙◌, T, eqb}
 use Rattle.std.proofs.lemmas.Bool.{not-true, not-false}
-use Rattle.std.specs.Prelude.{T, eqb}
 use Rattle.lists.specs.Tests.{conj, passes}
 use Rattle.sizes.specs.Sizes.{refusal}
 use Rattle.sizes.specs.Laws.{accepted}

@@ -1,10 +1,5 @@
 -- `ranges::flags_fit` meets its contract.
-use Rattle.std.proofs.Math.Path.{◌≡◌, ◌∙◌}
-use Rattle.std.specs.Prelude.{refl, Bool, true, false, not, List, T, ltb}
-use Rattle.std.proofs.Math.Bool.{◌&&◌}
-use Prim.Native.Nat.{ℕ, zero, suc, ◌<◌}
-use Rattle.std.proofs.Common.{arith, le-ltb, lt→ltb}
-use Rattle.std.proofs.Math.ListN.{get_or}
+use Rattle.std.proofs.Common.{◌≡◌, ◌∙◌, refl, Bool, true, false, not, List, T, ltb, ◌&&◌, ℕ, zero, suc, ◌<◌, arith, le-ltb, lt→ltb, get_or}
 use Rattle.lists.specs.Lists.{all}
 use Rattle.lists.specs.Loops.{tested_from, tested_more, tested_done}
 use Rattle.lists.specs.Tests.{and_both, or_left}

@@ -1,6 +1,5 @@
 -- `ranges::flags_fit` meets its contract.
-use Rattle.std.proofs.Math.Bool.{◌&&◌}
-use Prim.Native.Nat.{◌≤◌}
+use Rattle.std.proofs.Common.{◌&&◌, ◌≤◌}
 use Rattle.lists.specs.Loops.{Tested}
 use Rattle.agreement.specs.Column.{flag_fits}
 use Rattle.refusals.proofs.ranges.flags_fit.Given as goal

@@ -1,8 +1,5 @@
 -- `ranges::kept_fit` meets its contract.
-use Rattle.std.proofs.Math.Path.{◌≡◌, ◌∙◌}
-use Rattle.std.proofs.Common.{sym, eqb→eq}
-use Rattle.std.specs.Prelude.{true, List, ℕ, eqb, ltb}
-use Rattle.std.proofs.Math.ListN.{get_or}
+use Rattle.std.proofs.Common.{◌≡◌, ◌∙◌, sym, eqb→eq, true, List, ℕ, eqb, ltb, get_or}
 use Rattle.lists.specs.Lists.{all}
 use Rattle.lists.specs.Entries.{all_each, each_all}
 use Rattle.lists.specs.Tests.{or_right, is_true, passes}

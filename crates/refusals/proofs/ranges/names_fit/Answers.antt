@@ -1,7 +1,5 @@
 -- `ranges::names_fit` meets its contract.
-use Rattle.std.proofs.Common.{sym}
-use Rattle.std.proofs.Math.Path.{◌∙◌}
-use borrow.Author.Tests.{eq-eqb, ne_eqb}
+use Rattle.std.proofs.Common.{sym, ◌∙◌, eq-eqb, ne_eqb}
 use Rattle.agreement.specs.Column.{names_fit}
 use Rattle.refusals.proofs.ranges.names_fit.Goals as goal
 

@@ -1,6 +1,5 @@
 -- `ranges::numbers_fit` meets its contract.
-use Rattle.std.proofs.Common.{sym, lt-ltb, le-ltb}
-use Rattle.std.proofs.Math.Path.{◌∙◌}
+use Rattle.std.proofs.Common.{sym, lt-ltb, le-ltb, ◌∙◌}
 use Rattle.std.proofs.lemmas.Bool.{not-true, not-false}
 use Rattle.agreement.specs.Column.{numbers_fit}
 use Rattle.refusals.proofs.ranges.numbers_fit.Goals as goal

@@ -1,7 +1,5 @@
 -- `ranges::point_fits` meets its contract.
-use Rattle.std.proofs.Common.{sym}
-use Rattle.std.proofs.Math.Path.{◌∙◌}
-use borrow.Author.Tests.{lt-ltb, le-ltb, eq-eqb, ne_eqb}
+use Rattle.std.proofs.Common.{sym, ◌∙◌, lt-ltb, le-ltb, eq-eqb, ne_eqb}
 use Rattle.refusals.proofs.ranges.point_fits.Goals as goal
 
 pub returns-then-read_point-v : goal.returns-then-read_point-v

@@ -1,5 +1,5 @@
 -- `ranges::round_fits` meets its contract.
-use Rattle.std.specs.Prelude.{refl}
+use Rattle.std.proofs.Common.{refl}
 use Rattle.refusals.proofs.ranges.round_fits.Goals as goal
 
 pub returns : goal.returns

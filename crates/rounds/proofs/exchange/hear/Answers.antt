@@ -1,5 +1,5 @@
 -- `exchange::hear` meets its contract.
-use Rattle.std.specs.Prelude.{refl}
+use Rattle.std.proofs.Common.{refl}
 use Rattle.dispersal.specs.Laws.{agreed_flags}
 use Rattle.agreement.specs.Rounds.{hears}
 use Rattle.rounds.specs.Ready.{exchange_accepted}

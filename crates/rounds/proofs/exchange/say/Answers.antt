@@ -1,5 +1,5 @@
 -- `exchange::say` meets its contract.
-use Rattle.std.proofs.Math.Path.{◌∙◌}
+use Rattle.std.proofs.Common.{◌∙◌}
 use Rattle.messages.specs.Laws.{if_done}
 use Rattle.dispersal.specs.Dispersal.{exchanges}
 use Rattle.agreement.specs.Rounds.{message}

@@ -1,6 +1,5 @@
 -- `phases::hear_king` meets its contract.
-use Rattle.std.proofs.Math.Path.{◌≡◌}
-use Rattle.std.specs.Prelude.{refl}
+use Rattle.std.proofs.Common.{◌≡◌, refl}
 use Rattle.king.specs.King.{crowned}
 use Rattle.agreement.specs.Rounds.{hears}
 use Rattle.rounds.proofs.phases.hear_king.Goals as goal

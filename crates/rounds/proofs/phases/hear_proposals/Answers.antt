@@ -1,6 +1,5 @@
 -- `phases::hear_proposals` meets its contract.
-use Rattle.std.proofs.Math.Path.{◌≡◌}
-use Rattle.std.specs.Prelude.{refl}
+use Rattle.std.proofs.Common.{◌≡◌, refl}
 use Rattle.protocols.specs.declared.Kind.TheVariants.{Proposals}
 use Rattle.agreement.specs.Parts.{with_stage, with_vote}
 use Rattle.agreement.specs.Rounds.{hears, received, message, resettled}

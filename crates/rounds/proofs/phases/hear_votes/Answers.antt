@@ -1,5 +1,5 @@
 -- `phases::hear_votes` meets its contract.
-use Rattle.std.specs.Prelude.{refl}
+use Rattle.std.proofs.Common.{refl}
 use Rattle.agreement.specs.Rounds.{hears, received, message}
 use Rattle.rounds.proofs.phases.hear_votes.Goals as goal
 

@@ -1,5 +1,5 @@
 -- `phases::king_said` meets its contract.
-use Rattle.std.specs.Prelude.{refl}
+use Rattle.std.proofs.Common.{refl}
 use Rattle.agreement.specs.Rounds.{king_said, message}
 use Rattle.rounds.proofs.phases.king_said.Goals as goal
 

@@ -1,8 +1,5 @@
 -- `post::byte_at` meets its contract.
-use Rattle.std.proofs.Math.Path.{◌≡◌, ◌∙◌}
-use Rattle.std.specs.Prelude.{refl, Bool, true, false, cond, ltb}
-use Rattle.std.proofs.Common.{sym, arith, lt-ltb, le-ltb, ltb-true}
-use Prim.Native.Nat.{ℕ, ◌<◌}
+use Rattle.std.proofs.Common.{◌≡◌, ◌∙◌, refl, Bool, true, false, cond, ltb, sym, arith, lt-ltb, le-ltb, ltb-true, ℕ, ◌<◌}
 use Rattle.std.proofs.lemmas.Bool.{not-true, not-false}
 use Rattle.field.specs.Field.{blank}
 use Rattle.messages.specs.Messages.{read_byte}

@@ -1,5 +1,5 @@
 -- `post::hear` meets its contract.
-use Rattle.std.specs.Prelude.{refl}
+use Rattle.std.proofs.Common.{refl}
 use Rattle.agreement.specs.Rounds.{hears}
 use Rattle.rounds.proofs.post.hear.Goals as goal
 

@@ -1,5 +1,5 @@
 -- `post::is_byte` meets its contract.
-use Rattle.std.specs.Prelude.{refl}
+use Rattle.std.proofs.Common.{refl}
 use Rattle.rounds.proofs.post.is_byte.Goals as goal
 
 pub returns : goal.returns

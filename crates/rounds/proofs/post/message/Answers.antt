@@ -1,7 +1,5 @@
 -- `post::message` meets its contract.
-use Rattle.std.specs.Prelude.{refl}
-use Rattle.std.proofs.Math.Path.{◌∙◌}
-use borrow.Author.Tests.{eq-eqb, ne_eqb}
+use Rattle.std.proofs.Common.{refl, ◌∙◌, eq-eqb, ne_eqb}
 use Rattle.dissemination.specs.Laws.{silenced}
 use Rattle.rounds.proofs.post.message.Goals as goal
 

@@ -1,7 +1,5 @@
 -- `post::posted` meets its contract.
-use Rattle.std.proofs.Math.Path.{◌≡◌, ◌∙◌}
-use Rattle.std.specs.Prelude.{refl, List, ℕ}
-use borrow.Author.Tests.{eq-eqb, ne_eqb}
+use Rattle.std.proofs.Common.{◌≡◌, ◌∙◌, refl, List, ℕ, eq-eqb, ne_eqb}
 use Rattle.agreement.specs.declared.Column.{Column}
 use Rattle.agreement.specs.Post.{posted_by, taken_record, posted}
 use Rattle.rounds.proofs.post.posted.Goals as goal

@@ -1,8 +1,5 @@
 -- `post::posted_by` meets its contract.
-use Rattle.std.specs.Prelude.{refl, ℕ}
-use Rattle.std.proofs.Common.{ap, arith}
-use Rattle.std.proofs.Math.Path.{◌∙◌}
-use Rattle.std.proofs.Math.ListN.{get_or}
+use Rattle.std.proofs.Common.{refl, ℕ, ap, arith, ◌∙◌, get_or}
 use Rattle.field.specs.Field.{blank}
 use Rattle.messages.specs.Messages.{said}
 use Rattle.agreement.specs.Post.{posted_by}

@@ -1,6 +1,5 @@
 -- `post::values` meets its contract.
-use Rattle.std.proofs.Math.Path.{◌∙◌}
-use Rattle.std.proofs.Common.{arith}
+use Rattle.std.proofs.Common.{◌∙◌, arith}
 use Rattle.lists.specs.Entries.{list_of_get_d}
 use Rattle.lists.specs.Loops.{filled_none, filled_more, filled_done}
 use Rattle.rounds.proofs.post.values.Goals as goal

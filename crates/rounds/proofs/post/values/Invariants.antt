@@ -1,5 +1,5 @@
 -- `post::values` meets its contract.
-use Rattle.std.proofs.Math.ListN.{get_or}
+use Rattle.std.proofs.Common.{get_or}
 use Rattle.lists.specs.Loops.{Filled}
 use Rattle.rounds.proofs.post.values.Given as goal
 

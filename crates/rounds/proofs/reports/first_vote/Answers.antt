@@ -1,5 +1,5 @@
 -- `reports::first_vote` meets its contract.
-use borrow.Author.Tests.{eq-eqb, ne_eqb}
+use Rattle.std.proofs.Common.{eq-eqb, ne_eqb}
 use Rattle.agreement.specs.Rounds.{first_vote}
 use Rattle.rounds.proofs.reports.first_vote.Goals as goal
 

@@ -1,5 +1,5 @@
 -- `reports::hear_second` meets its contract.
-use Rattle.std.specs.Prelude.{refl}
+use Rattle.std.proofs.Common.{refl}
 use Rattle.agreement.specs.Rounds.{hears, received, message, graded}
 use Rattle.rounds.proofs.reports.hear_second.Goals as goal
 

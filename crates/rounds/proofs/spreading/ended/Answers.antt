@@ -1,5 +1,5 @@
 -- `spreading::ended` meets its contract.
-use Rattle.std.specs.Prelude.{refl}
+use Rattle.std.proofs.Common.{refl}
 use Rattle.rounds.proofs.spreading.ended.Goals as goal
 
 pub returns : goal.returns

@@ -1,7 +1,5 @@
 -- `spreading::hear_kept` meets its contract.
-use Rattle.std.proofs.Math.Path.{◌≡◌, ◌∙◌}
-use Rattle.std.specs.Prelude.{refl}
-use Rattle.std.proofs.Common.{sym}
+use Rattle.std.proofs.Common.{◌≡◌, ◌∙◌, refl, sym}
 use Rattle.std.proofs.lemmas.Bool.{not-true, not-false}
 use Rattle.agreement.specs.declared.Stage.TheVariants.{Ended}
 use Rattle.agreement.specs.declared.Outcome.TheVariants.{Record}

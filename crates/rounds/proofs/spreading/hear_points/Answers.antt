@@ -1,5 +1,5 @@
 -- `spreading::hear_points` meets its contract.
-use Rattle.std.specs.Prelude.{refl}
+use Rattle.std.proofs.Common.{refl}
 use Rattle.dissemination.specs.Laws.{kept_points_lem}
 use Rattle.protocols.specs.declared.Kind.TheVariants.{Points}
 use Rattle.protocols.specs.Protocols.{width}

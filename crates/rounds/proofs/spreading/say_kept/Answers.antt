@@ -1,6 +1,5 @@
 -- `spreading::say_kept` meets its contract.
-use Rattle.std.specs.Prelude.{refl}
-use Rattle.std.proofs.Math.Path.{◌∙◌}
+use Rattle.std.proofs.Common.{refl, ◌∙◌}
 use Rattle.messages.specs.Messages.{to_all}
 use Rattle.messages.specs.Laws.{if_done}
 use Rattle.protocols.specs.declared.Kind.TheVariants.{KeptPoints}

@@ -1,5 +1,5 @@
 -- `spreading::spreads` meets its contract.
-use Rattle.std.specs.Prelude.{refl}
+use Rattle.std.proofs.Common.{refl}
 use Rattle.agreement.specs.Rounds.{spreads}
 use Rattle.rounds.proofs.spreading.spreads.Goals as goal
 

@@ -1,5 +1,5 @@
 -- `spreading::votes_one` meets its contract.
-use Rattle.std.specs.Prelude.{refl}
+use Rattle.std.proofs.Common.{refl}
 use Rattle.agreement.specs.Rounds.{votes_one}
 use Rattle.rounds.proofs.spreading.votes_one.Goals as goal
 

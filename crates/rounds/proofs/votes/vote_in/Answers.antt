@@ -1,7 +1,5 @@
 -- `votes::vote_in` meets its contract.
-use Rattle.std.specs.Prelude.{refl}
-use Rattle.std.proofs.Common.{sym}
-use Rattle.std.proofs.Math.Path.{◌∙◌}
+use Rattle.std.proofs.Common.{refl, sym, ◌∙◌}
 use Rattle.agreement.specs.Rounds.{vote_in}
 use Rattle.rounds.proofs.votes.vote_in.Goals as goal
 

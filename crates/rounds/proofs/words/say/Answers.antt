@@ -1,5 +1,5 @@
 -- `words::say` meets its contract.
-use Rattle.std.proofs.Math.Path.{◌∙◌}
+use Rattle.std.proofs.Common.{◌∙◌}
 use Rattle.messages.specs.Laws.{if_done}
 use Rattle.rounds.proofs.words.say.Goals as goal
 

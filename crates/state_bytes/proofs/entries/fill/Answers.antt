@@ -1,8 +1,5 @@
 -- `entries::fill` meets its contract.
-use Rattle.std.proofs.Common.{rules, ap, arith}
-use Rattle.std.proofs.Math.Path.{◌≡◌}
-use Rattle.std.specs.Prelude.{refl, ℕ, length}
-use mathlib.Core.List.{[], ◌∷◌}
+use Rattle.std.proofs.Common.{rules, ap, arith, ◌≡◌, refl, ℕ, length, [], ◌∷◌}
 use Rattle.state_bytes.specs.Entry.{entry_numbers, entry_bytes}
 use Rattle.state_bytes.specs.Writing.{fronted_first, fronted_more}
 use Rattle.state_bytes.proofs.entries.fill.Goals as goal

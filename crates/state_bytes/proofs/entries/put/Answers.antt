@@ -1,7 +1,5 @@
 -- `entries::put` meets its contract.
-use Rattle.std.proofs.Math.Path.{◌≡◌, ◌∙◌}
-use Rattle.std.proofs.Common.{sym, arith, rules}
-use Rattle.std.specs.Prelude.{length}
+use Rattle.std.proofs.Common.{◌≡◌, ◌∙◌, sym, arith, rules, length}
 use Rattle.messages.specs.Laws.{put_fits, not_put}
 use Rattle.state_bytes.specs.Entry.{entry_bytes}
 use Rattle.state_bytes.specs.Inverse.{entry_long}

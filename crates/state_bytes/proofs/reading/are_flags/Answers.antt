@@ -1,6 +1,5 @@
 -- `reading::are_flags` meets its contract.
-use Rattle.std.specs.Prelude.{refl}
-use Rattle.std.proofs.Common.{arith}
+use Rattle.std.proofs.Common.{refl, arith}
 use Rattle.lists.specs.Loops.{tested_none, tested_more, tested_done}
 use Rattle.state_bytes.specs.Layout.{is_flag}
 use Rattle.state_bytes.proofs.reading.are_flags.Goals as goal

@@ -1,5 +1,5 @@
 -- `reading::are_numbers` meets its contract.
-use Rattle.std.specs.Prelude.{refl}
+use Rattle.std.proofs.Common.{refl}
 use Rattle.state_bytes.specs.Layout.{are_numbers}
 use Rattle.state_bytes.proofs.reading.are_numbers.Goals as goal
 

@@ -1,8 +1,7 @@
 -- `reading::flags` meets its contract.
-use Rattle.std.proofs.Common.{arith}
+use Rattle.std.proofs.Common.{arith, refl}
 use Rattle.lists.specs.Loops.{filled_none, filled_more, filled_done}
 use Rattle.state_bytes.specs.Layout.{flag_from}
-use Rattle.std.specs.Prelude.{refl}
 use Rattle.state_bytes.proofs.reading.flags.Goals as goal
 
 pub loop-i-init : goal.loop-i-init

@@ -1,7 +1,5 @@
 -- `reading::is_protocol` meets its contract.
-use Rattle.std.specs.Prelude.{refl}
-use Rattle.std.proofs.Common.{sym, ap, lt-ltb, le-ltb}
-use Rattle.std.proofs.Math.Path.{◌∙◌}
+use Rattle.std.proofs.Common.{refl, sym, ap, lt-ltb, le-ltb, ◌∙◌}
 use Rattle.protocols.specs.Protocols.{posts, protocol_count}
 use Rattle.state_bytes.specs.Layout.{is_protocol}
 use Rattle.state_bytes.proofs.reading.is_protocol.Goals as goal

@@ -1,6 +1,5 @@
 -- `reading::is_stage` meets its contract.
-use Rattle.std.specs.Prelude.{refl}
-use Rattle.std.proofs.Common.{lt-ltb, le-ltb}
+use Rattle.std.proofs.Common.{refl, lt-ltb, le-ltb}
 use Rattle.state_bytes.specs.Layout.{is_stage}
 use Rattle.state_bytes.proofs.reading.is_stage.Goals as goal
 

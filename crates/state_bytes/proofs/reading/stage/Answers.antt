@@ -1,5 +1,5 @@
 -- `reading::stage` meets its contract.
-use borrow.Author.Tests.{eq-eqb, ne_eqb}
+use Rattle.std.proofs.Common.{eq-eqb, ne_eqb}
 use Rattle.state_bytes.specs.Layout.{stage_of}
 use Rattle.state_bytes.proofs.reading.stage.Goals as goal
 

@@ -1,6 +1,5 @@
 -- `reading::whole` meets its contract.
-use Rattle.std.specs.Prelude.{refl}
-use Rattle.std.proofs.Common.{arith}
+use Rattle.std.proofs.Common.{refl, arith}
 use Rattle.lists.specs.Loops.{filled_none, filled_more, filled_done}
 use Rattle.state_bytes.specs.Layout.{whole}
 use Rattle.state_bytes.proofs.reading.whole.Goals as goal

@@ -1,5 +1,5 @@
 -- `reading::whole` meets its contract.
-use Rattle.std.proofs.Math.ListN.{get_or}
+use Rattle.std.proofs.Common.{get_or}
 use Rattle.lists.specs.Loops.{Filled}
 use Rattle.state_bytes.specs.Layout.{state_length}
 use Rattle.state_bytes.proofs.reading.whole.Given as goal

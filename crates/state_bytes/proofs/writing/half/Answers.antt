@@ -1,5 +1,5 @@
 -- `writing::half` meets its contract.
-use borrow.Author.Tests.{eq-eqb, ne_eqb}
+use Rattle.std.proofs.Common.{eq-eqb, ne_eqb}
 use Rattle.state_bytes.specs.Layout.{half}
 use Rattle.state_bytes.proofs.writing.half.Goals as goal
 

@@ -1,5 +1,5 @@
 -- `writing::numbers` meets its contract.
-use Rattle.std.specs.Prelude.{refl}
+use Rattle.std.proofs.Common.{refl}
 use Rattle.state_bytes.specs.Layout.{part, joined, encode}
 use Rattle.state_bytes.proofs.writing.numbers.Goals as goal
 

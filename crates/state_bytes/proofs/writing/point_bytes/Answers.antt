@@ -1,7 +1,5 @@
 -- `writing::point_bytes` meets its contract. A turn writes two bytes.
-use Rattle.std.proofs.Math.Path.{◌≡◌, ◌∙◌}
-use Rattle.std.proofs.Common.{ap, arith}
-use Prim.Native.Nat.{◌+◌, ◌*◌}
+use Rattle.std.proofs.Common.{◌≡◌, ◌∙◌, ap, arith, ◌+◌, ◌*◌}
 use Rattle.lists.specs.Loops.{filled_none, filled_more, filled_done}
 use Rattle.state_bytes.specs.Layout.{point_byte}
 use Rattle.state_bytes.specs.Inverse.{half_byte}

@@ -1,5 +1,5 @@
 -- `writing::point_bytes` meets its contract. A turn writes two bytes.
-use Prim.Native.Nat.{◌*◌}
+use Rattle.std.proofs.Common.{◌*◌}
 use Rattle.lists.specs.Loops.{Filled}
 use Rattle.state_bytes.specs.Layout.{point_byte}
 use Rattle.state_bytes.proofs.writing.point_bytes.Given as goal

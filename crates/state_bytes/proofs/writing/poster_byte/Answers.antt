@@ -1,7 +1,5 @@
 -- `writing::poster_byte` meets its contract.
-use Rattle.std.specs.Prelude.{refl}
-use Rattle.std.proofs.Common.{sym}
-use Rattle.std.proofs.Math.Path.{◌∙◌}
+use Rattle.std.proofs.Common.{refl, sym, ◌∙◌}
 use Rattle.state_bytes.specs.Layout.{poster_byte}
 use Rattle.state_bytes.proofs.writing.poster_byte.Goals as goal
 

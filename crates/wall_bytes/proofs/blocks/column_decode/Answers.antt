@@ -1,7 +1,5 @@
 -- `blocks::column_decode` meets its contract.
-use Rattle.std.proofs.Common.{rules, sym, ap, arith, le-leb}
-use Rattle.std.proofs.Math.Path.{◌∙◌}
-use Rattle.std.specs.Prelude.{ℕ, length}
+use Rattle.std.proofs.Common.{rules, sym, ap, arith, le-leb, ◌∙◌, ℕ, length}
 use Rattle.messages.specs.Messages.{refusal}
 use Rattle.messages.specs.Laws.{if_refused, if_done, accepted}
 use Rattle.decoder.specs.Decoder.{decoded, refusal_of}

@@ -1,7 +1,5 @@
 -- `rows::places` meets its contract.
-use borrow.Author.Tests.{eq-eqb, ne_eqb}
-use Rattle.std.specs.Prelude.{length}
-use Prim.Native.Nat.{◌%◌}
+use Rattle.std.proofs.Common.{eq-eqb, ne_eqb, length, ◌%◌}
 use Rattle.state_bytes.specs.Entry.{entry_length}
 use Rattle.wall_bytes.specs.Calls.{places}
 use Rattle.wall_bytes.proofs.rows.places.Goals as goal

@@ -1,6 +1,5 @@
 -- `rows::run` meets its contract.
-use Rattle.std.proofs.Common.{sym, ap, arith}
-use Rattle.std.proofs.Math.Path.{◌∙◌}
+use Rattle.std.proofs.Common.{sym, ap, arith, ◌∙◌}
 use Rattle.messages.specs.Laws.{if_refused, if_done}
 use Rattle.wall_run.specs.Run.{outcomes}
 use Rattle.wall_bytes.specs.Calls.{row_bytes, wall_row}

@@ -1,12 +1,8 @@
 -- `entries::all` meets its contract.
-use Rattle.std.proofs.Math.Path.{◌∙◌}
-use Rattle.std.proofs.Common.{ap, ap₂, arith}
-use Prim.Native.Nat.{◌+◌}
+use Rattle.std.proofs.Common.{◌∙◌, ap, ap₂, arith, ◌+◌, drop, replicate, List, ◌++◌}
 use Rattle.std.proofs.lemmas.List.{length-replicate}
-use Rattle.std.specs.Prelude.{drop, replicate}
 use Rattle.lists.specs.Loops.{filled_none, filled_more, filled_part}
 use Rattle.wall_run.specs.Run.{entry_in, in_places, entry_of}
-use mathlib.Core.List.{List, ◌++◌}
 use Rattle.lists.specs.Lists.{list_of}
 use Rattle.lists.specs.Entries.{get_d_within}
 use Rattle.agreement.specs.Calls.{no_column}

@@ -1,6 +1,5 @@
 -- `entries::entry` meets its contract.
-use Rattle.std.proofs.Common.{sym, ap}
-use Rattle.std.proofs.Math.Path.{◌∙◌}
+use Rattle.std.proofs.Common.{sym, ap, ◌∙◌}
 use Rattle.agreement.specs.Entries.{mark_only}
 use Rattle.wall_run.specs.Run.{entry_of}
 use Rattle.wall_run.proofs.entries.entry.Goals as goal

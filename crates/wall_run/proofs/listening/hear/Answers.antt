@@ -1,7 +1,5 @@
 -- `listening::hear` meets its contract.
-use Rattle.std.specs.Prelude.{refl, List, ℕ}
-use Rattle.std.proofs.Common.{sym, ap, arith}
-use Rattle.std.proofs.Math.Path.{◌∙◌}
+use Rattle.std.proofs.Common.{refl, List, ℕ, sym, ap, arith, ◌∙◌}
 use Rattle.std.proofs.lemmas.Bool.{not-true, not-false}
 use Rattle.wall_run.specs.Run.{heard}
 use Rattle.messages.specs.Laws.{if_done}

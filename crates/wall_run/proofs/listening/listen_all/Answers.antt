@@ -1,7 +1,5 @@
 -- `listening::listen_all` meets its contract.
-use Rattle.std.proofs.Common.{sym, ap, arith, length-take-le}
-use Rattle.std.proofs.Math.Path.{◌∙◌}
-use Prim.Native.Nat.{ℕ, ◌+◌, ◌<◌}
+use Rattle.std.proofs.Common.{sym, ap, arith, length-take-le, ◌∙◌, ℕ, ◌+◌, ◌<◌}
 use Rattle.std.proofs.lemmas.List.{length-replicate}
 use Rattle.std.proofs.Math.Seq.{length_front}
 use Rattle.lists.specs.Entries.{get_d_within}

@@ -1,6 +1,5 @@
 -- `listening::listen_all` meets its contract.
-use Rattle.std.proofs.Math.Path.{◌≡◌}
-use Rattle.std.specs.Prelude.{length}
+use Rattle.std.proofs.Common.{◌≡◌, length}
 use Rattle.lists.specs.Loops.{Filled}
 use Rattle.sheet.specs.Sheet.{columns}
 use Rattle.wall_run.specs.Run.{turned, heard}

@@ -1,7 +1,5 @@
 -- `rounds::played` meets its contract.
-use Rattle.std.proofs.Common.{ap, ap₂}
-use Rattle.std.proofs.Math.Path.{◌∙◌}
-use Rattle.std.specs.Prelude.{List, ℕ, replicate}
+use Rattle.std.proofs.Common.{ap, ap₂, ◌∙◌, List, ℕ, replicate}
 use Rattle.field.specs.Field.{blank}
 use Rattle.agreement.specs.declared.Column.{Column}
 use Rattle.sheet.specs.Sheet.{columns}

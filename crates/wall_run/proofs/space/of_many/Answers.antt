@@ -1,7 +1,5 @@
 -- `space::of_many` meets its contract.
-use Rattle.std.proofs.Common.{ap, add-zero, arith}
-use Rattle.std.proofs.Math.Path.{◌∙◌}
-use Prim.Native.Nat.{ℕ, ◌*◌}
+use Rattle.std.proofs.Common.{ap, add-zero, arith, ◌∙◌, ℕ, ◌*◌}
 use Rattle.wall_run.proofs.space.of_many.Goals as goal
 
 pub overflow_cast-of_one : goal.overflow_cast-of_one

@@ -1,7 +1,5 @@
 -- `space::of_one` meets its contract.
-use Rattle.std.proofs.Common.{ap, add-zero}
-use Rattle.std.proofs.Math.Path.{◌∙◌}
-use Prim.Native.Nat.{ℕ, ◌*◌}
+use Rattle.std.proofs.Common.{ap, add-zero, ◌∙◌, ℕ, ◌*◌}
 use Rattle.wall_run.proofs.space.of_one.Goals as goal
 
 pub returns : goal.returns

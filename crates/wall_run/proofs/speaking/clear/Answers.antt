@@ -1,7 +1,5 @@
 -- `speaking::clear` meets its contract.
-use Rattle.std.specs.Prelude.{refl}
-use Rattle.std.proofs.Math.Path.{◌∙◌}
-use Rattle.std.proofs.Common.{arith}
+use Rattle.std.proofs.Common.{refl, ◌∙◌, arith}
 use Rattle.lists.specs.Loops.{filled_none, filled_more, filled_done}
 use Rattle.wall_run.specs.Speaking.{all_blank}
 use Rattle.wall_run.proofs.speaking.clear.Goals as goal

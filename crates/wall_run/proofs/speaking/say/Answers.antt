@@ -1,7 +1,5 @@
 -- `speaking::say` meets its contract.
-use Rattle.std.specs.Prelude.{refl, List, ℕ, take}
-use Rattle.std.proofs.Common.{sym, ap, arith, length-take-le}
-use Rattle.std.proofs.Math.Path.{◌∙◌}
+use Rattle.std.proofs.Common.{refl, List, ℕ, take, sym, ap, arith, length-take-le, ◌∙◌}
 use Rattle.std.proofs.lemmas.Bool.{not-true, not-false}
 use Rattle.agreement.specs.declared.Answered.{Answered}
 use Rattle.agreement.specs.Calls.{speak}

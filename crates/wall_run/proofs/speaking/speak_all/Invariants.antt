@@ -1,5 +1,5 @@
 -- `speaking::speak_all` meets its contract.
-use Prim.Native.Nat.{◌*◌}
+use Rattle.std.proofs.Common.{◌*◌}
 use Rattle.lists.specs.Loops.{Filled, Rowed}
 use Rattle.sheet.specs.Sheet.{columns}
 use Rattle.wall_run.specs.Run.{turned, spoken, words_of, mail}

@@ -1,10 +1,8 @@
 -- `start::made` meets its contract.
-use Rattle.std.proofs.Common.{arith, mul-le-mul, ap}
+use Rattle.std.proofs.Common.{arith, mul-le-mul, ap, ℕ, ◌+◌, ◌*◌, ◌≤◌, ◌-◌, length, take, drop}
 use Rattle.sheet.specs.Sheet.{record_of, columns, bytes, record_place}
 use Rattle.sheet.specs.Laws.{record_place_lem, record_fits}
 use Rattle.wall_run.specs.Run.{made}
-use Prim.Native.Nat.{ℕ, ◌+◌, ◌*◌, ◌≤◌, ◌-◌}
-use Rattle.std.specs.Prelude.{length, take, drop}
 use Rattle.agreement.specs.Calls.{fresh}
 use Rattle.wall_run.proofs.start.made.Goals as goal
 

@@ -1,11 +1,8 @@
 -- `start::start` meets its contract.
-use Rattle.std.proofs.Common.{arith, ap₂}
+use Rattle.std.proofs.Common.{arith, ap₂, drop, replicate, ◌∙◌, List, ◌++◌}
 use Rattle.lists.specs.Loops.{filled_none, filled_more, filled_part}
 use Rattle.std.proofs.lemmas.List.{length-replicate}
-use Rattle.std.specs.Prelude.{drop, replicate}
 use Rattle.wall_run.specs.Run.{made, start}
-use Rattle.std.proofs.Math.Path.{◌∙◌}
-use mathlib.Core.List.{List, ◌++◌}
 use Rattle.lists.specs.Lists.{list_of}
 use Rattle.agreement.specs.declared.Column.{Column}
 use Rattle.wall_run.proofs.start.start.Goals as goal

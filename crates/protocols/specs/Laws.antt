@@ -194,7 +194,7 @@ module _ (n m : ℕ) where
   by_rounds [] = refl
   by_rounds (kind ∷ rest) =
       sum_front (λ r. width n m (get_or (kind ∷ rest) (r - 1) KeptPoints)) (length rest)
-      ∙ ap (λ (x : ℕ). width n m kind + x) (sum_same _ _ (length rest) (λ r l h.
+      ∙ ap (λ (x : ℕ). width n m kind + x) (sum_same (λ r. width n m (get_or (kind ∷ rest) (suc r - 1) KeptPoints)) (λ r. width n m (get_or rest (r - 1) KeptPoints)) (length rest) (λ r l h.
       let i : suc r - 1 ≡ suc (r - 1) = omega arith in
       rw i refl) ∙ by_rounds rest)
 

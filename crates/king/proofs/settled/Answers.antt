@@ -19,5 +19,5 @@ pub returns : goal.returns
 unfolding settled firm
 returns c =
     let a = c.args in
-    let vote : c.chosen-after.result ≡ settled a.n (from a.t2) a.vote = rw c.faults-t.ensures at c.chosen-after.ensures in
+    let vote : c.chosen-after.result ≡ settled a.n (from a.proposals) a.vote = rw c.faults-t.ensures at c.chosen-after.ensures in
     (vote, rw (c.received.ensures, c.faults-t.ensures, vote) refl)

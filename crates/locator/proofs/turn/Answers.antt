@@ -26,4 +26,4 @@ returns c =
     let a = c.args in
     turn_second (run_of a.first.now a.second.now a.w) a.y a.j c.if-y-ge-MODULUS.false
     (sym c.leads.ensures ∙ c.if-leads.false)
-    _ _ c.if-leads.false c.clear-2.ensures c.raise-2.ensures
+    _ _ c.if-z-eq0.false c.clear-2.ensures c.raise-2.ensures

@@ -14,9 +14,9 @@ overflow_sub-n c = omega (arith, c.faults.ensures, faults_le c.args.n)
 pub returns-then-n-faults : goal.returns-then-n-faults
 unfolding first_report first_quorum
 returns-then-n-faults c = let a = c.args in
-    simp (le-leb (a.n - faults a.n) (count (agrees a.t2) a.n) (omega (arith, c.if-n-faults.true, c.faults.ensures, c.in_both.ensures, both_self a.t2 a.n)))
+    simp (le-leb (a.n - faults a.n) (count (agrees a.agreements) a.n) (omega (arith, c.if-n-faults.true, c.faults.ensures, c.in_both.ensures, both_self a.agreements a.n)))
 
 pub returns : goal.returns
 unfolding first_report first_quorum
 returns c = let a = c.args in
-    simp (lt-leb (a.n - faults a.n) (count (agrees a.t2) a.n) (omega (arith, c.if-n-faults.false, c.faults.ensures, c.in_both.ensures, both_self a.t2 a.n)))
+    simp (lt-leb (a.n - faults a.n) (count (agrees a.agreements) a.n) (omega (arith, c.if-n-faults.false, c.faults.ensures, c.in_both.ensures, both_self a.agreements a.n)))

@@ -18,9 +18,9 @@ overflow_mul-faults c = record { fits = omega (arith, c.faults.ensures, faults_l
 pub returns-then-faults-times : goal.returns-then-faults-times
 unfolding grade
 returns-then-faults-times c = let a = c.args in
-    simp (sym c.sends_second.ensures ∙ not-false _ c.if-not-sends_second.false, le-leb (2 * faults a.n + 1) (times (read_reports (from a.t5)) 1 a.n) (omega (arith, c.if-faults-times.true, c.faults.ensures, c.times.ensures, times_reports (from a.t5) a.n)))
+    simp (sym c.sends_second.ensures ∙ not-false _ c.if-not-sends_second.false, le-leb (2 * faults a.n + 1) (times (read_reports (from a.values)) 1 a.n) (omega (arith, c.if-faults-times.true, c.faults.ensures, c.times.ensures, times_reports (from a.values) a.n)))
 
 pub returns : goal.returns
 unfolding grade
 returns c = let a = c.args in
-    simp (sym c.sends_second.ensures ∙ not-false _ c.if-not-sends_second.false, lt-leb (2 * faults a.n + 1) (times (read_reports (from a.t5)) 1 a.n) (omega (arith, c.if-faults-times.false, c.faults.ensures, c.times.ensures, times_reports (from a.t5) a.n)))
+    simp (sym c.sends_second.ensures ∙ not-false _ c.if-not-sends_second.false, lt-leb (2 * faults a.n + 1) (times (read_reports (from a.values)) 1 a.n) (omega (arith, c.if-faults-times.false, c.faults.ensures, c.times.ensures, times_reports (from a.values) a.n)))

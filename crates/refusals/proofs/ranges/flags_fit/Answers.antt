@@ -25,7 +25,7 @@ low_fits n flags i h = or_left (ltb i n) (not (get_or flags i false)) (lt→ltb 
 
 pub loop-i-init : goal.loop-i-init
 loop-i-init c = let a = c.args in
-    (tested_from _ _ _ c.requires (λ i l. and_both (flag_fits a.n a.t2 i) (flag_fits a.n a.t3 i) (low_fits _ _ i l) (low_fits _ _ i l)), omega arith)
+    (tested_from _ _ _ c.requires (λ i l. and_both (flag_fits a.n a.agreements i) (flag_fits a.n a.reports i) (low_fits _ _ i l) (low_fits _ _ i l)), omega arith)
 
 pub loop-i-preserved : goal.loop-i-preserved
 unfolding flag_fits

@@ -32,10 +32,10 @@ unfolding entry_in
 loop-i-preserved c =
     let a = c.args in
     let i = c.loop-i.i in
-    filled_more _ _ _ _ _ _ c.loop-i.invariant (omega arith) (c.entry.ensures ∙ ap (entry_of a.sheet.now (i + 1)) (get_d_within a.t2 i _ no_column (omega (arith, c.columns-n.ensures, c.requires, c.well_formed.1.0.1.0.1))))
+    filled_more _ _ _ _ _ _ c.loop-i.invariant (omega arith) (c.entry.ensures ∙ ap (entry_of a.sheet.now (i + 1)) (get_d_within a.wall i _ no_column (omega (arith, c.columns-n.ensures, c.requires, c.well_formed.1.0.1.0.1))))
 
 pub returns : goal.returns
 unfolding in_places
 returns c =
     let a = c.args in
-    filled_part _ _ _ _ _ c.loop-i.invariant (omega arith) ∙ ap₂ {C = List Entry} (λ n none. list_of (entry_in a.sheet.now a.t2) n ++ drop n (replicate 31 none)) c.columns-n.ensures c.mark_only-none.ensures
+    filled_part _ _ _ _ _ c.loop-i.invariant (omega arith) ∙ ap₂ {C = List Entry} (λ n none. list_of (entry_in a.sheet.now a.wall) n ++ drop n (replicate 31 none)) c.columns-n.ensures c.mark_only-none.ensures

@@ -59,7 +59,7 @@ loop-j-preserved c =
     let read = get_d_within c.loop-j.wall j _ no_column (omega (arith, so_far.same, so_far.size)) ∙ filled_read _ _ _ _ j no_column so_far in
     let w = columns a.sheet.now * a.width in
     let part = take (length c.loop-j.mail - c.of_many-at.result) (drop c.of_many-at.result c.loop-j.mail) in
-    (filled_more _ _ _ _ _ _ so_far inside (c.say.ensures.0 ∙ ap (spoken a.sheet.now a.width (j + 1)) read), rowed_more _ _ _ _ _ _ _ _ c.loop-j.invariant.1 inside c.of_many-at.ensures (c.say.ensures.1 ∙ ap (λ (x : Column). list_of (said (words a.sheet.now a.width (j + 1) x)) w ++ drop w part) (read ∙ ap (λ (k : ℕ). get_or a.t3 k no_column) {x = j} {y = j + 1 - 1} (omega arith))))
+    (filled_more _ _ _ _ _ _ so_far inside (c.say.ensures.0 ∙ ap (spoken a.sheet.now a.width (j + 1)) read), rowed_more _ _ _ _ _ _ _ _ c.loop-j.invariant.1 inside c.of_many-at.ensures (c.say.ensures.1 ∙ ap (λ (x : Column). list_of (said (words a.sheet.now a.width (j + 1) x)) w ++ drop w part) (read ∙ ap (λ (k : ℕ). get_or a.wall k no_column) {x = j} {y = j + 1 - 1} (omega arith))))
 
 pub shape_of-mail : goal.shape_of-mail
 shape_of-mail c = c.loop-j.invariant.1.same

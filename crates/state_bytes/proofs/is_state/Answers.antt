@@ -10,13 +10,13 @@ returns-then-state-ne-SIZE c = simp (ne_eqb _ _ c.if-state-ne-SIZE.true)
 
 pub returns-then-not-are_numbers : goal.returns-then-not-are_numbers
 unfolding is_state
-returns-then-not-are_numbers c = simp (eq-eqb _ _ c.if-state-ne-SIZE.false, sym c.are_numbers.ensures ∙ not-true _ c.if-not-are_numbers.true)
+returns-then-not-are_numbers c = simp (eq-eqb _ _ c.if-state-ne-SIZE.false, sym c.are_numbers.ensures ∙ c.if-not-are_numbers.true)
 
 pub returns : goal.returns
 unfolding is_state
 returns c =
     simp (
       eq-eqb _ _ c.if-state-ne-SIZE.false,
-      sym c.are_numbers.ensures ∙ not-false _ c.if-not-are_numbers.false,
+      sym c.are_numbers.ensures ∙ c.if-not-are_numbers.false,
       c.are_flags.ensures,
     )

@@ -1,6 +1,5 @@
 -- `exchange::agreement_at` meets its contract.
 use Rattle.std.proofs.Common.{sym, arith, ◌∙◌, ◌*◌}
-use Rattle.std.proofs.lemmas.Bool.{not-true, not-false}
 use Rattle.lists.specs.Rows.{row_fits}
 use Rattle.dispersal.specs.Laws.{agrees_past, agrees_itself, agrees_not, agrees_other}
 use Rattle.dispersal.proofs.exchange.agreement_at.Goals as goal
@@ -17,7 +16,7 @@ same_values-requires c =
 
 pub returns-then-not-same_values : goal.returns-then-not-same_values
 returns-then-not-same_values c =
-    agrees_not _ _ _ _ _ _ _ (omega arith) c.if-i-own.false _ c.place-at.ensures (sym c.same_values.ensures ∙ not-true _ c.if-not-same_values.true)
+    agrees_not _ _ _ _ _ _ _ (omega arith) c.if-i-own.false _ c.place-at.ensures (sym c.same_values.ensures ∙ c.if-not-same_values.true)
 
 pub overflow_add-at : goal.overflow_add-at
 overflow_add-at c =
@@ -30,4 +29,4 @@ same_as-requires c =
 pub returns : goal.returns
 returns c =
     agrees_other _ _ _ _ _ _ _ (omega arith) c.if-i-own.false _ c.place-at.ensures
-    (sym c.same_values.ensures ∙ not-false _ c.if-not-same_values.false) _ c.same_as.ensures
+    (sym c.same_values.ensures ∙ c.if-not-same_values.false) _ c.same_as.ensures

@@ -3,7 +3,6 @@ use Rattle.std.proofs.Math.Option.{none}
 use Rattle.std.proofs.Common.{◌≡◌, ◌∙◌, refl, sym, inl, inr, mul-le-mul, arith, [], ◌∷◌, ℕ, ◌+◌}
 use types.Run.{OneOf}
 use denote.Enum.Declared.{tag_of}
-use Rattle.std.proofs.lemmas.Bool.{not-true}
 use Rattle.sizes.specs.Laws.{accepted, blocks_le, degree_le, few_blocks}
 use Rattle.sizes.specs.Sizes.{degree}
 use Rattle.decoder.specs.declared.Decoded.{Decoded}
@@ -50,7 +49,7 @@ unfolding answer_in
 returns-then-not-are_bytes c = let a = c.args in
     decodes_none a.n a.m _ c.loop-k.k _ (omega (arith, c.blocks-b.ensures))
     (block_bytes a.n a.m _ c.loop-k.k _ (sym (rw c.blocks-b.ensures at c.block.ensures) ∙ c.in-Polynomial.is)
-    ∙ sym (rw c.degree.ensures at c.are_bytes.ensures) ∙ not-true _ c.if-not-are_bytes.true)
+    ∙ sym (rw c.degree.ensures at c.are_bytes.ensures) ∙ c.if-not-are_bytes.true)
 
 pub overflow_cast-at : goal.overflow_cast-at
 overflow_cast-at c = omega (arith, c.blocks-b.ensures, few_blocks c.args.n c.args.m c.args.own c.requires)

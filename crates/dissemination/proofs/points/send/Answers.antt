@@ -1,6 +1,5 @@
 -- `points::send` meets its contract.
 use Rattle.std.proofs.Common.{sym, ap, ◌∙◌, Bool, List, ℕ, length}
-use Rattle.std.proofs.lemmas.Bool.{not-true, not-false}
 use Rattle.messages.specs.Messages.{unless_refused}
 use Rattle.messages.specs.Laws.{if_refused, if_done, accepted as messages_accepted}
 use Rattle.dissemination.specs.Dissemination.{points_to_all, round_refusal}
@@ -12,7 +11,7 @@ returns-then-not-speaks c =
     let a = c.args in
     let told = c.send.ensures in (
       told.0,
-      told.1 ∙ ap (λ (l : List ℕ). unless_refused (round_refusal a.n a.m 1 (length a.out.now)) l a.out.now) (points_none a.n a.m a.speaks a.bytes _ (not-true _ c.if-not-speaks.true)),
+      told.1 ∙ ap (λ (l : List ℕ). unless_refused (round_refusal a.n a.m 1 (length a.out.now)) l a.out.now) (points_none a.n a.m a.speaks a.bytes _ (c.if-not-speaks.true)),
     )
 
 pub returns-then-why-ne0 : goal.returns-then-why-ne0
@@ -25,4 +24,4 @@ pub returns : goal.returns
 returns c =
     let a = c.args in
     let e = sym c.refusal-why.ensures ∙ c.if-why-ne0.false in
-    (sym e, c.send_all.ensures ∙ ap (λ (s : Bool). points_to_all a.n a.m s a.bytes) (sym (not-false _ c.if-not-speaks.false)) ∙ sym (if_done _ _ _ e))
+    (sym e, c.send_all.ensures ∙ ap (λ (s : Bool). points_to_all a.n a.m s a.bytes) (sym (c.if-not-speaks.false)) ∙ sym (if_done _ _ _ e))

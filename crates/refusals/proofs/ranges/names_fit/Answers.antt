@@ -5,8 +5,8 @@ use Rattle.refusals.proofs.ranges.names_fit.Goals as goal
 
 pub returns-then-refusal-ne0 : goal.returns-then-refusal-ne0
 unfolding names_fit
-returns-then-refusal-ne0 c = simp (ne_eqb _ _ (λ z. c.if-refusal-ne0.taken (c.refusal.ensures ∙ z)))
+returns-then-refusal-ne0 c = simp (ne_eqb _ _ (λ z. c.if-refusal-ne0.true (c.refusal.ensures ∙ z)))
 
 pub returns : goal.returns
 unfolding names_fit
-returns c = simp (eq-eqb _ _ (sym c.refusal.ensures ∙ c.if-refusal-ne0.left), c.refusal-2.ensures, c.beside.ensures)
+returns c = simp (eq-eqb _ _ (sym c.refusal.ensures ∙ c.if-refusal-ne0.false), c.refusal-2.ensures, c.beside.ensures)

@@ -1,6 +1,5 @@
 -- `post::byte_at` meets its contract.
 use Rattle.std.proofs.Common.{◌≡◌, ◌∙◌, refl, Bool, true, false, cond, ltb, sym, arith, lt-ltb, le-ltb, ltb-true, ℕ, ◌<◌}
-use Rattle.std.proofs.lemmas.Bool.{not-true, not-false}
 use Rattle.field.specs.Field.{blank}
 use Rattle.messages.specs.Messages.{read_byte}
 use Rattle.agreement.specs.Post.{posted_byte, sent_byte}
@@ -21,11 +20,11 @@ returns-then-column-p c = simp (le-ltb _ _ c.if-column-p.true)
 
 pub returns-then-not-is_byte : goal.returns-then-not-is_byte
 unfolding posted_byte sent_byte
-returns-then-not-is_byte c = simp (lt-ltb _ _ c.if-column-p.false, ← c.posted_by-v.ensures, sym c.is_byte.ensures ∙ not-true _ c.if-not-is_byte.true)
+returns-then-not-is_byte c = simp (lt-ltb _ _ c.if-column-p.false, ← c.posted_by-v.ensures, sym c.is_byte.ensures ∙ c.if-not-is_byte.true)
 
 pub overflow_cast-result : goal.overflow_cast-result
-overflow_cast-result c = omega (arith, reads_itself _ (sym c.is_byte.ensures ∙ not-false _ c.if-not-is_byte.false))
+overflow_cast-result c = omega (arith, reads_itself _ (sym c.is_byte.ensures ∙ c.if-not-is_byte.false))
 
 pub returns : goal.returns
 unfolding posted_byte sent_byte
-returns c = simp (lt-ltb _ _ c.if-column-p.false, ← c.posted_by-v.ensures, sym c.is_byte.ensures ∙ not-false _ c.if-not-is_byte.false)
+returns c = simp (lt-ltb _ _ c.if-column-p.false, ← c.posted_by-v.ensures, sym c.is_byte.ensures ∙ c.if-not-is_byte.false)

@@ -1,6 +1,5 @@
 -- `listening::hear` meets its contract.
 use Rattle.std.proofs.Common.{refl, List, ℕ, sym, ap, arith, ◌∙◌}
-use Rattle.std.proofs.lemmas.Bool.{not-true, not-false}
 use Rattle.wall_run.specs.Run.{heard}
 use Rattle.messages.specs.Laws.{if_done}
 use Rattle.agreement.specs.declared.Answered.{Answered}
@@ -13,7 +12,7 @@ overflow_add-i c = let p = c.requires.0 in omega (arith, p.number_high, p.range.
 
 pub returns-then-not-sound : goal.returns-then-not-sound
 unfolding heard
-returns-then-not-sound c = rw (sym c.sound.ensures ∙ not-true _ c.if-not-sound.true) refl
+returns-then-not-sound c = rw (sym c.sound.ensures ∙ c.if-not-sound.true) refl
 
 pub overflow_add-i-2 : goal.overflow_add-i-2
 overflow_add-i-2 c = let p = c.requires.0 in omega (arith, p.number_high, p.range.columns_high)
@@ -23,4 +22,4 @@ unfolding heard
 returns c =
     let a = c.args in
     let got = c.deliver.ensures.1 ∙ if_done _ _ _ (delivers _ _ _ _ c.requires.0 c.requires.1) in
-    rw (sym c.sound.ensures ∙ not-false _ c.if-not-sound.false) (ap (λ (r : Answered). r.column) c.listen-answered.ensures ∙ ap (λ (l : List ℕ). (listen a.column l).column) got)
+    rw (sym c.sound.ensures ∙ c.if-not-sound.false) (ap (λ (r : Answered). r.column) c.listen-answered.ensures ∙ ap (λ (l : List ℕ). (listen a.column l).column) got)

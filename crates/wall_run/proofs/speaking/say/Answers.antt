@@ -1,6 +1,5 @@
 -- `speaking::say` meets its contract.
 use Rattle.std.proofs.Common.{refl, List, ℕ, take, sym, ap, arith, length-take-le, ◌∙◌}
-use Rattle.std.proofs.lemmas.Bool.{not-true, not-false}
 use Rattle.agreement.specs.declared.Answered.{Answered}
 use Rattle.agreement.specs.Calls.{speak}
 use Rattle.sheet.specs.Sheet.{columns}
@@ -11,7 +10,7 @@ use Rattle.wall_run.proofs.speaking.say.Goals as goal
 pub returns-then-not-sound : goal.returns-then-not-sound
 unfolding spoken words
 returns-then-not-sound c =
-    let not_sound = sym c.sound.ensures ∙ not-true _ c.if-not-sound.true in
+    let not_sound = sym c.sound.ensures ∙ c.if-not-sound.true in
     (rw not_sound refl, rw not_sound (sym (not_said _ _ _ c.requires.2)))
 
 pub slice_bounds-speak-end : goal.slice_bounds-speak-end
@@ -26,5 +25,5 @@ returns c =
     let a = c.args in
     let len = c.of_one-len.ensures in
     let blank = c.requires.2 in
-    let is_sound = sym c.sound.ensures ∙ not-false _ c.if-not-sound.false in
+    let is_sound = sym c.sound.ensures ∙ c.if-not-sound.false in
     (rw is_sound (ap (λ (r : Answered). r.column) c.speak-answered.ensures.0 ∙ ap (λ (l : List ℕ). (speak a.column l).column) (ap (λ (k : ℕ). take k a.part.now) len ∙ blank)), rw is_sound (all_said a.column (columns a.sheet.now) a.width c.of_one-len.result a.part.now c.speak-answered.new.1.0 len blank c.speak-answered.ensures.1))

@@ -1,4 +1,5 @@
 -- `decoding::decode` meets its contract.
+use Rattle.std.proofs.lemmas.Bool.{not-true, not-false}
 use Rattle.std.proofs.Common.{sym, arith, ◌∙◌}
 use Rattle.sizes.specs.Laws.{degree_le}
 use Rattle.messages.specs.Laws.{accepted as messages_accepted}
@@ -14,7 +15,7 @@ decode_blocks-blocks-requires c = (messages_accepted _ _ _ _ (sym c.refusal-why.
 pub returns-then-not-blocks : goal.returns-then-not-blocks
 returns-then-not-blocks c = let a = c.args in
     disseminated_none a.n a.m a.own a.speaks a.kept a.inbox.now _ c.refusal-why.ensures _ _ c.if-why-ne0.false
-    (decodes_told a.n a.m a.own a.speaks a.kept _ _ a.inbox.now _ _ c.silenced_unless-mine.ensures c.decode_blocks-blocks.ensures) (c.if-not-blocks.true)
+    (decodes_told a.n a.m a.own a.speaks a.kept _ _ a.inbox.now _ _ c.silenced_unless-mine.ensures c.decode_blocks-blocks.ensures) (not-true _ c.if-not-blocks.true)
 
 pub overflow_cast-degree : goal.overflow_cast-degree
 overflow_cast-degree c = record { fits = omega (arith, c.degree.ensures, degree_le c.args.n) }
@@ -25,5 +26,5 @@ overflow_add-degree c = record { fits = omega (arith, c.degree.ensures, degree_l
 pub returns : goal.returns
 returns c = let a = c.args in
     disseminated_some a.n a.m a.own a.speaks a.kept a.inbox.now _ c.refusal-why.ensures _ _ _ c.if-why-ne0.false
-    (decodes_told a.n a.m a.own a.speaks a.kept _ _ a.inbox.now _ _ c.silenced_unless-mine.ensures c.decode_blocks-blocks.ensures) (c.if-not-blocks.false)
+    (decodes_told a.n a.m a.own a.speaks a.kept _ _ a.inbox.now _ _ c.silenced_unless-mine.ensures c.decode_blocks-blocks.ensures) (not-false _ c.if-not-blocks.false)
     (rw c.degree.ensures at c.joined-bytes.ensures)

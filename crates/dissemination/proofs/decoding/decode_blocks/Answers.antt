@@ -1,22 +1,19 @@
 -- `decoding::decode_blocks` meets its contract.
 use Rattle.std.proofs.Math.Option.{none}
-use Rattle.std.proofs.Common.{◌≡◌, ◌∙◌, refl, sym, inl, inr, mul-le-mul, arith, [], ◌∷◌, ℕ, ◌+◌}
-use types.Run.{OneOf}
-use denote.Enum.Declared.{tag_of}
+use Rattle.std.proofs.Common.{◌≡◌, ◌∙◌, refl, sym, ap, not, mul-le-mul, arith, ℕ, ◌+◌}
 use Rattle.sizes.specs.Laws.{accepted, blocks_le, degree_le, few_blocks}
 use Rattle.sizes.specs.Sizes.{degree}
+use Rattle.decoder.specs.declared.Coefficients.{Coefficients}
 use Rattle.decoder.specs.declared.Decoded.{Decoded}
 use Rattle.decoder.specs.declared.Decoded.TheVariants.{Polynomial, Nothing, Refused}
 use Rattle.decoder.specs.Decoder.{polynomial_of}
-use Rattle.decoder.specs.contracts.Decoded.{the_type}
 use Rattle.dissemination.specs.Decoding.{answer_in, block_missing, block_bytes, done_none, done_more, decodes_none, decodes_all}
 use Rattle.dissemination.proofs.decoding.decode_blocks.Goals as goal
 
 -- an answer that is no polynomial
-missed : (n : ℕ) (d e : Decoded) → d ≡ e → OneOf (1 ∷ 2 ∷ []) (tag_of the_type d) → polynomial_of n e ≡ none
+missed : (n : ℕ) (d e : Decoded) → d ≡ e → ((c : Coefficients) → d ≡ Polynomial c → ⊥) → polynomial_of n e ≡ none
 unfolding polynomial_of
-missed n (Polynomial c) e q (inl h) = absurd (omega arith)
-missed n (Polynomial c) e q (inr h) = absurd (omega arith)
+missed n (Polynomial c) e q h = absurd (h c refl)
 missed n Nothing e q h = rw (← q) refl
 missed n (Refused r) e q h = rw (← q) refl
 
@@ -39,7 +36,7 @@ pub returns-in_default : goal.returns-in_default
 unfolding answer_in
 returns-in_default c = let a = c.args in
     decodes_none a.n a.m _ c.loop-k.k _ (omega (arith, c.blocks-b.ensures))
-    (block_missing a.n a.m _ c.loop-k.k (missed a.n _ _ (rw c.blocks-b.ensures at c.block.ensures) c.in_default.in_default-own.keys2))
+    (block_missing a.n a.m _ c.loop-k.k (missed a.n _ _ (rw c.blocks-b.ensures at c.block.ensures) c.in_default.not-Polynomial))
 
 pub overflow_mul-k : goal.overflow_mul-k
 overflow_mul-k c = record { fits = omega (arith, mul-le-mul {n₁ = c.loop-k.k} {m₁ = c.degree.result + 1} {n₂ = 255} {m₂ = 255} (omega (arith, c.blocks-b.ensures, blocks_le c.args.n c.args.m)) (omega (arith, c.degree.ensures, degree_le c.args.n))) }
@@ -95,7 +92,7 @@ unfolding answer_in
 loop-k-preserved c = let a = c.args in
     let e = sym (rw c.blocks-b.ensures at c.block.ensures) ∙ c.in-Polynomial.is in
     done_more a.n a.m _ _ _ c.loop-k.k _ _ c.loop-k.invariant (omega (arith, c.blocks-b.ensures)) e
-    ((rw c.degree.ensures at c.are_bytes.ensures) ∙ sym (block_bytes a.n a.m _ c.loop-k.k _ e)) c.if-not-are_bytes.false
+    ((rw c.degree.ensures at c.are_bytes.ensures) ∙ sym (block_bytes a.n a.m _ c.loop-k.k _ e)) (ap not c.if-not-are_bytes.false)
 
 pub returns : goal.returns
 returns c = decodes_all _ _ _ _ _ _ c.loop-k.invariant (omega (arith, c.blocks-b.ensures))

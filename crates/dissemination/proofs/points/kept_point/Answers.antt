@@ -14,7 +14,7 @@ loop-i-init c = best_none _ _
 pub overflow_add-c : goal.overflow_add-c
 overflow_add-c c =
     let a = c.args in
-    let values = c.gather.new.1.1.1.1.1.1.0 in
+    let values = c.gather.new.values in
     record { fits = omega (arith, c.weight-c.ensures, weight_le 32 (from values) c.loop-i.best (get_or values c.loop-i.i 0), c.faults-t.ensures, faults_le a.n) }
 
 pub returns-then-n-c : goal.returns-then-n-c

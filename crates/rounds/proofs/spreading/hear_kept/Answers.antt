@@ -1,4 +1,5 @@
 -- `spreading::hear_kept` meets its contract.
+use Rattle.std.proofs.lemmas.Bool.{not-true, not-false}
 use Rattle.std.proofs.Common.{◌≡◌, ◌∙◌, refl, sym}
 use Rattle.agreement.specs.declared.Stage.TheVariants.{Ended}
 use Rattle.agreement.specs.declared.Outcome.TheVariants.{Record}
@@ -14,9 +15,9 @@ returns-then-not-votes_one c = c.ended.ensures ∙ ends_silent _ _ (sym c.votes_
 
 pub returns-then-not-decoded : goal.returns-then-not-decoded
 unfolding width
-returns-then-not-decoded c = c.ended-then-not-decoded.ensures ∙ ends_none _ _ (sym c.votes_one.ensures ∙ c.if-not-votes_one.false) (points_heard _ _ KeptPoints refl c.requires) _ c.decode-decoded.ensures (c.if-not-decoded.true)
+returns-then-not-decoded c = c.ended-then-not-decoded.ensures ∙ ends_none _ _ (sym c.votes_one.ensures ∙ c.if-not-votes_one.false) (points_heard _ _ KeptPoints refl c.requires) _ c.decode-decoded.ensures (not-true _ c.if-not-decoded.true)
 
 pub returns : goal.returns
 unfolding width
 returns c = let e : c.ended-2.result ≡ with_stage (Ended Record) (with_bytes c.decode-decoded.result.bytes c.args.column) = c.ended-2.ensures in
-    e ∙ ends_record _ _ (sym c.votes_one.ensures ∙ c.if-not-votes_one.false) (points_heard _ _ KeptPoints refl c.requires) _ c.decode-decoded.ensures (c.if-not-decoded.false)
+    e ∙ ends_record _ _ (sym c.votes_one.ensures ∙ c.if-not-votes_one.false) (points_heard _ _ KeptPoints refl c.requires) _ c.decode-decoded.ensures (not-false _ c.if-not-decoded.false)

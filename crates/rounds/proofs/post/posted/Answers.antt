@@ -18,4 +18,4 @@ pub returns-then-column-poster : goal.returns-then-column-poster
 returns-then-column-poster c = let a = c.args in keeps a.poster a.column a.inbox.now c.if-column-poster.true
 
 pub returns : goal.returns
-returns c = let a = c.args in c.true.ensures ∙ takes a.poster a.column a.inbox.now c.if-column-poster.false
+returns c = let a = c.args in c.taken.ensures ∙ takes a.poster a.column a.inbox.now c.if-column-poster.false

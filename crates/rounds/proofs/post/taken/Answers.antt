@@ -2,7 +2,7 @@
 use Rattle.std.proofs.Common.{refl, sym, arith, ◌∙◌}
 use Rattle.lists.specs.Loops.{filled_none, filled_more, filled_done}
 use Rattle.agreement.specs.Post.{taken_record}
-use Rattle.rounds.proofs.post.true.Goals as goal
+use Rattle.rounds.proofs.post.taken.Goals as goal
 
 pub returns-then-not-are_bytes : goal.returns-then-not-are_bytes
 unfolding taken_record

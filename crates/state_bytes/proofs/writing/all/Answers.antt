@@ -4,7 +4,6 @@ use Rattle.lists.specs.Lists.{list_of}
 use Rattle.lists.specs.Entries.{length_list_of}
 use Rattle.state_bytes.specs.Layout.{Bytes, Agreements, Reports, Kept, offset, length_of, state_length, flag_byte, point_byte, part, joined, encode}
 use Rattle.state_bytes.specs.Writing.{fronted_first, fronted_more, fronted_all}
-use borrow.Author.Rules.{length_unmapped}
 use Rattle.state_bytes.proofs.writing.all.Goals as goal
 
 pub returns : goal.returns
@@ -12,7 +11,7 @@ unfolding encode joined part
 returns c =
     let a = c.args in
     let long : length a.state.now ≡ state_length = c.requires in
-    let whole : length a.column.bytes ≡ 32 = length_unmapped ℕ a.column.bytes 32 c.well_formed.0.1.1.1.1.1.1.0.1.0.1 in
+    let whole : length a.column.bytes ≡ 32 = c.well_formed.0.1.1.1.1.1.1.0.1.0.1 in
     let agreed : c.flag_bytes-agreement_bytes.result ≡ list_of (flag_byte a.column.agreements) 31 = c.flag_bytes-agreement_bytes.ensures in
     let reported : c.flag_bytes-report_bytes.result ≡ list_of (flag_byte a.column.reports) 31 = c.flag_bytes-report_bytes.ensures in
     let kept : c.point_bytes-kept_bytes.result ≡ list_of (point_byte a.column.kept) 64 = c.point_bytes-kept_bytes.ensures in

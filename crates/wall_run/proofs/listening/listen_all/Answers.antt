@@ -43,7 +43,7 @@ loop-i-preserved c =
     let inside : i < columns a.sheet.now = omega (arith, c.columns-n.ensures) in
     let so_far = c.loop-i.invariant.0 in
     let read = get_d_within c.loop-i.wall i _ no_column (omega (arith, so_far.same, so_far.size)) ∙ filled_read _ _ _ _ i no_column so_far in
-    (filled_more _ _ _ _ _ _ so_far inside (c.hear.ensures ∙ ap (heard a.sheet.now a.round a.mail.now (i + 1)) read), length_front c.loop-i.inbox c.hear.new.1.1.1.1.1.0 c.of_one-len.result c.hear.auto.1.1.1.1.1.0 ∙ c.loop-i.invariant.1)
+    (filled_more _ _ _ _ _ _ so_far inside (c.hear.ensures ∙ ap (heard a.sheet.now a.round a.mail.now (i + 1)) read), length_front c.loop-i.inbox c.hear.new.inbox c.of_one-len.result c.hear.auto.inbox ∙ c.loop-i.invariant.1)
 
 pub returns : goal.returns
 unfolding each

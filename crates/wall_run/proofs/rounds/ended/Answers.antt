@@ -66,7 +66,7 @@ pub overflow_step-q : goal.overflow_step-q
 overflow_step-q c = omega (arith, c.loop-q.invariant.few)
 
 pub loop-q-preserved : goal.loop-q-preserved
-loop-q-preserved c = going_more c.line_in-line.result c.values_in-width.result c.loop-q.invariant (omega arith) (length_front c.loop-q.mail c.played-next.new.1.1.1.0 c.of_many-len.result c.played-next.auto.1.1.1.0) (c.line_in-line.ensures ∙ ap₂ {C = ℕ} (λ n m. line_in c.args.protocol n m) c.columns-n.ensures c.bytes-m.ensures) (c.values_in-width.ensures ∙ ap₂ {C = ℕ} (λ n m. values_in c.args.protocol n m (c.loop-q.q + 1)) c.columns-n.ensures c.bytes-m.ensures) c.played-next.ensures
+loop-q-preserved c = going_more c.line_in-line.result c.values_in-width.result c.loop-q.invariant (omega arith) (length_front c.loop-q.mail c.played-next.new.mail c.of_many-len.result c.played-next.auto.mail) (c.line_in-line.ensures ∙ ap₂ {C = ℕ} (λ n m. line_in c.args.protocol n m) c.columns-n.ensures c.bytes-m.ensures) (c.values_in-width.ensures ∙ ap₂ {C = ℕ} (λ n m. values_in c.args.protocol n m (c.loop-q.q + 1)) c.columns-n.ensures c.bytes-m.ensures) c.played-next.ensures
 
 pub returns : goal.returns
 returns c = going_done c.loop-q.invariant (omega arith) (c.rounds_in-last.ensures ∙ ap (rounds_in c.args.protocol) c.columns-n.ensures)

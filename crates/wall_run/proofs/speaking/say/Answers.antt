@@ -26,4 +26,4 @@ returns c =
     let len = c.of_one-len.ensures in
     let blank = c.requires.2 in
     let is_sound = sym c.sound.ensures ∙ c.if-not-sound.false in
-    (rw is_sound (ap (λ (r : Answered). r.column) c.speak-answered.ensures.0 ∙ ap (λ (l : List ℕ). (speak a.column l).column) (ap (λ (k : ℕ). take k a.part.now) len ∙ blank)), rw is_sound (all_said a.column (columns a.sheet.now) a.width c.of_one-len.result a.part.now c.speak-answered.new.1.0 len blank c.speak-answered.ensures.1))
+    (rw is_sound (ap (λ (r : Answered). r.column) c.speak-answered.ensures.0 ∙ ap (λ (l : List ℕ). (speak a.column l).column) (ap (λ (k : ℕ). take k a.part.now) len ∙ blank)), rw is_sound (all_said a.column (columns a.sheet.now) a.width c.of_one-len.result a.part.now c.speak-answered.new.out len blank c.speak-answered.ensures.1))

@@ -1,0 +1,13 @@
+-- `row::fill` meets its contract.
+use Rattle.std.proofs.Common.{arith}
+use Rattle.lists.specs.Loops.{filled_none, filled_more, filled_part}
+use Rattle.wall_run.proofs.row.fill.Goals as goal
+
+pub loop-i-init : goal.loop-i-init
+loop-i-init c = filled_none _ _ _ (omega arith)
+
+pub loop-i-preserved : goal.loop-i-preserved
+loop-i-preserved c = filled_more _ _ _ _ _ _ c.loop-i.invariant (omega arith) c.entry_of.ensures
+
+pub returns : goal.returns
+returns c = filled_part _ _ _ _ _ c.loop-i.invariant (omega arith)

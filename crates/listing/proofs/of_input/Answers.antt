@@ -8,4 +8,4 @@ returns c =
     let a = c.args in
     let e = c.write_part-len.ensures in
     let is = printed_is a.protocol (take a.came a.room.now) _ _ e.0 e.1 in
-    (is, prints a.protocol a.room.now a.came _ (omega arith) is)
+    record { whole = is; every = prints a.protocol a.room.now a.came _ (omega arith) is }

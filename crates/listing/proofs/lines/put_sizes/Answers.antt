@@ -6,7 +6,7 @@ use Rattle.listing.proofs.lines.put_sizes.Goals as goal
 pub returns : goal.returns
 unfolding sizes_line ascii
 returns c =
-    let two = puts_more c.put_named-at-2.ensures c.put_named-at-2.ensures in
+    let two = puts_more c.put_named-at.ensures c.put_named-at-2.ensures in
     let three = puts_more two c.put_named-at-3.ensures in
     let four = puts_more three c.put_named-at-4.ensures in
     let five = puts_more four c.put_named-at-5.ensures in

@@ -8,7 +8,7 @@ use Rattle.sizes.specs.Sizes.{blocks}
 use Rattle.messages.specs.Messages.{from, to_all, heard_of_all}
 use Rattle.messages.specs.Wall.{Sound, Delivered}
 use Rattle.codeword.specs.Codeword.{Held}
-use Rattle.dispersal.specs.Dispersal.{exchange, exchanges, agreements, agrees, first_report, reports}
+use Rattle.dispersal.specs.Dispersal.{exchange, exchanges, agrees, first_report, reports}
 use Rattle.dispersal.specs.Run.{Graded}
 use Rattle.dispersal.specs.Graded.{grade_lt}
 use Rattle.dispersal.specs.Calls.{agreements_of, first_of, reports_of, second_of, leaves_with, calls_graded}

@@ -1,5 +1,5 @@
 -- Sums and products of polynomials, for arguments about decoding: their values and how many coefficients they have.
-use Rattle.std.specs.Prelude.{◌≡◌, refl, List, [], ◌∷◌, ℕ, zero, suc, ◌+◌, ◌-◌, ◌*◌, ◌≤◌, ◌<◌, T, eqb, length}
+use Rattle.std.specs.Prelude.{◌≡◌, refl, List, [], ◌∷◌, ℕ, zero, suc, ◌+◌, ◌-◌, ◌*◌, ◌≤◌, ◌<◌, T, length}
 use Rattle.std.proofs.Common.{sym, ap, ◌∙◌, mod-lt, zero-mul, mul-zero, zero-add, arith, eqb→eq, lit<}
 use Rattle.lists.specs.Lists.{count, Below}
 use Rattle.lists.specs.Tests.{eq→eqb}

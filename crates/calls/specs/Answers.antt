@@ -18,7 +18,6 @@ use Rattle.agreement.specs.declared.Outcome.{Outcome}
 use Rattle.agreement.specs.declared.Stage.{Stage}
 use Rattle.agreement.specs.declared.Stage.TheVariants.{Speak, Listen, Ended}
 use Rattle.agreement.specs.declared.Column.{Column}
-use Rattle.agreement.specs.declared.Answer.TheVariants.{Refused}
 use Rattle.agreement.specs.declared.Reply.TheVariants as R
 use Rattle.agreement.specs.declared.Replied.{Replied}
 use Rattle.agreement.specs.declared.Told.{Told}

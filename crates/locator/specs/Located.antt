@@ -1,7 +1,7 @@
 -- Why the lighter pair locates the wrong points: `located` gives the values of a polynomial e of at most t + 1 coefficients, for which
 -- some q of at most n - t coefficients fits all points that are not blank, and e and q are not both 0. So where a polynomial f meets
 -- n - t points, q = f e, and f meets every point at which e is not 0 (that is the decoder's argument).
-use Rattle.std.specs.Prelude.{◌≡◌, ◌⊎◌, Bool, true, false, cond, not, ◌&&◌, ◌||◌, List, [], ◌∷◌, eqb, leb, length, get_or}
+use Rattle.std.specs.Prelude.{◌≡◌, Bool, true, false, cond, not, ◌&&◌, ◌||◌, List, [], ◌∷◌, eqb, leb, length, get_or}
 use Rattle.std.proofs.Math.Path.{refl}
 use Rattle.std.proofs.Common.{sym, ap, ◌∙◌, inl, inr, ⊎_elim, eq-or-lt_of_le, le_of_suc-le-suc, leb-true, leb-false, eqb-true, lt-ltb, le-ltb}
 use Prim.Native.Nat.{ℕ, zero, suc, ◌+◌, ◌-◌, ◌*◌, ◌≤◌, ◌<◌}

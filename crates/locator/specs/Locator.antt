@@ -4,7 +4,7 @@
 -- is itself multiplied by (x - place). Blank points are passed over.
 use Rattle.std.specs.Prelude.{Bool, cond, not, ◌&&◌, ◌||◌, List, ℕ, zero, suc, ◌+◌, ◌-◌, ◌%◌, eqb, ltb, leb, get_or}
 use Rattle.lists.specs.Lists.{list_of}
-use Rattle.field.specs.Field.{add, subtract, multiply, blank}
+use Rattle.field.specs.Field.{add, subtract, multiply}
 use Rattle.messages.specs.Messages.{said as point_at}
 
 -- the discrepancy of a pair at index i

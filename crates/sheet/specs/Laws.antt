@@ -1,5 +1,5 @@
 -- The laws of a sheet: where its parts lie, and what is known of one that is accepted (`Accepted`).
-use Rattle.std.specs.Prelude.{◌≡◌, refl, Bool, true, false, not, cond, List, ℕ, ◌+◌, ◌-◌, ◌*◌, ◌≤◌, ◌<◌, T, eqb, ltb, length, drop}
+use Rattle.std.specs.Prelude.{◌≡◌, refl, Bool, true, false, not, cond, List, ℕ, ◌+◌, ◌*◌, ◌≤◌, ◌<◌, T, eqb, ltb, length, drop}
 use Rattle.std.proofs.Common.{ap, mul-le-mul, arith, ltb-true, ltb-false, leb-true, eqb→eq}
 use Rattle.std.proofs.Math.ListN.{length-drop}
 use Rattle.std.proofs.Math.Seq.{length-take-le}

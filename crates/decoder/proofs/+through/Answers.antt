@@ -1,5 +1,5 @@
 -- `through` meets its contract.
-use Rattle.std.proofs.Common.{sym, ap, ◌∙◌, ◌-◌, take, arith}
+use Rattle.std.proofs.Common.{sym, ap, ◌∙◌, ◌-◌, take}
 use Rattle.decoder.specs.Decoder.{coefficients, through as through_of}
 use Rattle.decoder.specs.Steps.{listed, pushed, through_none, through_step}
 use Rattle.decoder.specs.declared.Coefficients.{Coefficients}

@@ -1,7 +1,6 @@
 -- `copy_mail` meets its contract.
 use Rattle.std.proofs.Common.{arith}
 use Rattle.lists.specs.Loops.{filled_none, filled_more, filled_part}
-use Rattle.delivery.specs.Delivery.{mailed}
 use Rattle.delivery.proofs.copy_mail.Goals as goal
 
 pub loop-k-init : goal.loop-k-init

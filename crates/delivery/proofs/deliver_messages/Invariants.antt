@@ -2,7 +2,7 @@
 use Rattle.std.proofs.Common.{◌≡◌, ◌+◌, ◌≤◌}
 use Rattle.lists.specs.Loops.{Rowed}
 use Rattle.sheet.specs.Sheet.{unsound_to}
-use Rattle.delivery.specs.Delivery.{sent, inbox}
+use Rattle.delivery.specs.Delivery.{sent}
 use Rattle.delivery.specs.Places.{place}
 use Rattle.delivery.proofs.deliver_messages.Given as goal
 

@@ -2,7 +2,7 @@
 use Rattle.std.proofs.Common.{◌≡◌, ℕ, suc, ◌+◌, ◌≤◌}
 use Rattle.lists.specs.Loops.{Filled}
 use Rattle.sheet.specs.Sheet.{unsound_to}
-use Rattle.delivery.specs.Delivery.{sent, inbox}
+use Rattle.delivery.specs.Delivery.{sent}
 use Rattle.delivery.specs.Places.{place}
 use Rattle.delivery.proofs.deliver_words.Given as goal
 

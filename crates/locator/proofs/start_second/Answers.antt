@@ -1,7 +1,6 @@
 -- `start_second` meets its contract.
 use Rattle.std.proofs.Common.{arith}
 use Rattle.lists.specs.Loops.{filled_none, filled_more, filled_done}
-use Rattle.locator.specs.Locator.{second_at}
 use Rattle.locator.proofs.start_second.Goals as goal
 
 pub loop-i-init : goal.loop-i-init

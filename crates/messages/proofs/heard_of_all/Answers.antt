@@ -1,7 +1,7 @@
 -- `heard_of_all` meets its contract.
 use Rattle.std.proofs.Common.{arith}
 use Rattle.lists.specs.Loops.{filled_none, filled_more, filled_done}
-use Rattle.messages.specs.Messages.{heard_from, heard_of_all}
+use Rattle.messages.specs.Messages.{heard_of_all}
 use Rattle.messages.proofs.heard_of_all.Goals as goal
 
 pub one_of_all-requires : goal.one_of_all-requires

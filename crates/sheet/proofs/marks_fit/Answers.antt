@@ -1,7 +1,6 @@
 -- `marks_fit` meets its contract.
 use Rattle.std.proofs.Common.{arith, ap, not}
 use Rattle.lists.specs.Loops.{checked_none, checked_more, checked_fails, checked_done}
-use Rattle.sheet.specs.Sheet.{mark_fits}
 use Rattle.sheet.proofs.marks_fit.Goals as goal
 
 pub loop-i-init : goal.loop-i-init

@@ -1,6 +1,5 @@
 -- `is_state` meets its contract.
 use Rattle.std.proofs.Common.{sym, ◌∙◌, eq-eqb, ne_eqb}
-use borrow.Author.Tests.{not-true, not-false}
 use Rattle.state_bytes.specs.Layout.{is_state}
 use Rattle.state_bytes.proofs.is_state.Goals as goal
 

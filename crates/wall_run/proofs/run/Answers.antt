@@ -14,8 +14,7 @@ pub returns : goal.returns
 unfolding filled
 returns c =
     let a = c.args in
-    let o = c.outcomes_of-o.ensures in
-    (
+    let o = c.outcomes_of-o.ensures in (
       ap (λ (o : Outcomes). o.refusal) o ∙ outcomes_refusal a.protocol a.sheet.now (length a.row.now),
       c.fill.ensures ∙ ap (λ (o : Outcomes). filled o a.row.now) o ∙ filled_is a.protocol a.sheet.now a.row.now,
     )

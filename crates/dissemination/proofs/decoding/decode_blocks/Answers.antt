@@ -2,7 +2,6 @@
 use Rattle.std.proofs.Math.Option.{none}
 use Rattle.std.proofs.Common.{◌≡◌, ◌∙◌, refl, sym, ap, not, mul-le-mul, arith, ℕ, ◌+◌}
 use Rattle.sizes.specs.Laws.{accepted, blocks_le, degree_le, few_blocks}
-use Rattle.sizes.specs.Sizes.{degree}
 use Rattle.decoder.specs.declared.Coefficients.{Coefficients}
 use Rattle.decoder.specs.declared.Decoded.{Decoded}
 use Rattle.decoder.specs.declared.Decoded.TheVariants.{Polynomial, Nothing, Refused}

@@ -1,7 +1,7 @@
 -- `post::are_bytes` meets its contract.
 use Rattle.std.proofs.Common.{arith, ap, not}
 use Rattle.lists.specs.Loops.{checked_none, checked_more, checked_fails, checked_done}
-use Rattle.agreement.specs.Post.{posted_by, sent_byte}
+use Rattle.agreement.specs.Post.{sent_byte}
 use Rattle.rounds.proofs.post.are_bytes.Goals as goal
 
 pub loop-k-init : goal.loop-k-init

@@ -1,5 +1,5 @@
 -- `writing::all` meets its contract.
-use Rattle.std.proofs.Common.{◌≡◌, ◌∙◌, refl, ℕ, length, take, append_assoc, append-nil, arith}
+use Rattle.std.proofs.Common.{◌≡◌, ◌∙◌, refl, length, take, append_assoc, append-nil, arith}
 use Rattle.lists.specs.Lists.{list_of}
 use Rattle.lists.specs.Entries.{length_list_of}
 use Rattle.state_bytes.specs.Layout.{Bytes, Agreements, Reports, Kept, offset, length_of, state_length, flag_byte, point_byte, part, joined, encode}

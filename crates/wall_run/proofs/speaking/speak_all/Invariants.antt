@@ -2,7 +2,7 @@
 use Rattle.std.proofs.Common.{◌*◌}
 use Rattle.lists.specs.Loops.{Filled, Rowed}
 use Rattle.sheet.specs.Sheet.{columns}
-use Rattle.wall_run.specs.Run.{turned, spoken, words_of, mail}
+use Rattle.wall_run.specs.Run.{turned, spoken, words_of}
 use Rattle.wall_run.proofs.speaking.speak_all.Given as goal
 
 abbrev pub invariant-loop-j : goal.invariant-loop-j

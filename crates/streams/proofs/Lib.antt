@@ -1,0 +1,2 @@
+-- Lemmas: what a read adds to a room.
+mod Filling

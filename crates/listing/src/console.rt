@@ -1,15 +1,23 @@
-// What the programs do: one sheet from standard input, its listing to standard output. No contract can say what is read or written: this reads into
-// the room that `of_input` asks for, and writes what that answers.
+// What the programs do: one sheet from an input, its listing to an output. Where it is known what an input holds and what was written to an
+// output, the contract speaks of those bytes. Of standard input and standard output nobody knows them: the programs only pass them.
+ghost use Rattle.std.specs.Prelude.{OnOk, IfSome};
+ghost use Rattle.std.specs.Io.KnownBytes.{Appends};
+ghost use Rattle.listing.specs.Listing.{listing_of};
+
 use super::{ROOM, of_input};
-use libc::{STDIN_FILENO, STDOUT_FILENO};
 use protocols::Protocol;
+use std::io;
+use std::io::{Read, Write};
 
 // Prints the listing of the wall that runs the protocol, or `refused` and a number.
-pub fn list(protocol: Protocol) {
+pub fn list<R: Read, W: Write>(protocol: Protocol, input: &mut R, output: &mut W) -> io::Result<()>
+    ensures { OnOk result (IfSome (R.remaining input.old)
+        (λ sheet. Appends (W.contents output.old) (W.contents output.new) (listing_of protocol sheet))) }
+{
     let mut room = [0u8; ROOM];
-    let came = io::read_full(STDIN_FILENO, &mut room);
+    let came = streams::fill(input, &mut room)?;
     let printed = of_input(protocol, &room, came);
     let text = printed.bytes;
     let len = printed.len;
-    io::write_all(STDOUT_FILENO, &text[..len]);
+    output.write_all(&text[..len])
 }

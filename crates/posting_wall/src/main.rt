@@ -3,10 +3,13 @@
 #![tactic(auto)]
 
 use protocols::Protocol;
+use std::env::Env;
+use std::io;
 
-fn main() {
+fn main(rt: HostRuntime) -> io::Result<()> {
     // A missing argument, or one that is too long to be a column's number, is read as no text: 0, which is no column.
     let mut word = [0u8; 16];
-    let told = os::arg(1, &mut word);
-    listing::console::list(Protocol::Posting(listing::numbers::poster_of(&word[..told])));
+    let told = rt.arg(1, &mut word).unwrap_or(0);
+    let poster = listing::numbers::poster_of(&word[..told]);
+    listing::console::list(Protocol::Posting(poster), &mut rt.stdin(), &mut rt.stdout())
 }

@@ -2,7 +2,8 @@
 #![tactic(auto)]
 
 use protocols::Protocol;
+use std::io;
 
-fn main() {
-    listing::console::list(Protocol::Agreement);
+fn main(rt: HostRuntime) -> io::Result<()> {
+    listing::console::list(Protocol::Agreement, &mut rt.stdin(), &mut rt.stdout())
 }

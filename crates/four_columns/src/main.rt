@@ -9,7 +9,7 @@ ghost use Rattle.std.specs.Prelude.{◌≤◌};
 
 use calls::{Column, Outcome, Protocol, Reply};
 use field::Field;
-use libc::STDOUT_FILENO;
+use std::io;
 
 // The columns of a wall, 1 to 4.
 #[derive(Clone, Copy)]
@@ -154,43 +154,32 @@ fn played(wall: Wall, round: u8, lying: bool) -> Wall {
     }
 }
 
-fn write_outcome(outcome: Outcome, bytes: [u8; 32]) {
+fn write_outcome(rt: &impl Print, outcome: Outcome, bytes: [u8; 32]) -> io::Result<()> {
     match outcome {
-        Outcome::Nothing => {
-            io::write_all(STDOUT_FILENO, b"none");
-        }
-        Outcome::Record => {
-            io::print_hex(STDOUT_FILENO, bytes[0] as u64, 2);
-        }
+        Outcome::Nothing => print!(rt; "none"),
+        Outcome::Record => print!(rt; "{:02x}", bytes[0]),
     }
 }
 
 // The end of a line: what a column answers for its outcome.
-fn write_reply(reply: Reply, bytes: [u8; 32]) {
+fn write_reply(rt: &impl Print, reply: Reply, bytes: [u8; 32]) -> io::Result<()> {
     match reply {
         Reply::Ended(outcome) => {
-            io::write_all(STDOUT_FILENO, b" record ");
-            write_outcome(outcome, bytes);
+            print!(rt; " record ")?;
+            write_outcome(rt, outcome, bytes)?;
         }
-        Reply::Refused(why) => {
-            io::write_all(STDOUT_FILENO, b" refused ");
-            io::print_decimal(STDOUT_FILENO, why as u64);
-        }
+        Reply::Refused(why) => print!(rt; " refused {why}")?,
     }
-    io::write_all(STDOUT_FILENO, b"\n");
+    println!(rt; "")
 }
 
 // One line: what the column answers for its outcome.
-fn write_line(column: Column) {
-    io::print_decimal(STDOUT_FILENO, column.own as u64);
-    io::write_all(STDOUT_FILENO, b" grade ");
-    io::print_decimal(STDOUT_FILENO, column.grade as u64);
-    io::write_all(STDOUT_FILENO, b" bit ");
-    io::print_decimal(STDOUT_FILENO, column.vote as u64);
+fn write_line(rt: &impl Print, column: Column) -> io::Result<()> {
+    print!(rt; "{} grade {} bit {}", column.own, column.grade, column.vote)?;
     let asked = calls::outcome(column);
     let reply = asked.reply;
     let bytes = asked.bytes;
-    write_reply(reply, bytes);
+    write_reply(rt, reply, bytes)
 }
 
 // All rounds, 1 to 11.
@@ -203,27 +192,26 @@ fn ended(wall: Wall, lying: bool) -> Wall {
 }
 
 // A run with the records of columns 3 and 4; columns 1 and 2 hold 41.
-fn run(c: u8, d: u8, lying: bool) {
+fn run(rt: &impl Print, c: u8, d: u8, lying: bool) -> io::Result<()> {
     let start = Wall {
         a: made(1, 0x41),
         b: made(2, 0x41),
         c: made(3, c),
         d: made(4, d),
     };
-    write_line(start.a);
+    write_line(rt, start.a)?;
     let end = ended(start, lying);
-    write_line(end.a);
-    write_line(end.b);
-    write_line(end.c);
+    write_line(rt, end.a)?;
+    write_line(rt, end.b)?;
+    write_line(rt, end.c)?;
     if lying {
-        io::write_all(STDOUT_FILENO, b"4 unsound\n");
-        return;
+        return println!(rt; "4 unsound");
     }
-    write_line(end.d);
+    write_line(rt, end.d)
 }
 
-fn main() {
-    run(0x41, 0x42, false);
-    run(0x42, 0x41, true);
-    posted::run();
+fn main(rt: HostRuntime) -> io::Result<()> {
+    run(&rt, 0x41, 0x42, false)?;
+    run(&rt, 0x42, 0x41, true)?;
+    posted::run(&rt)
 }

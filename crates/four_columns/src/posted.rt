@@ -2,7 +2,7 @@
 // it, the same to all, so that a round's inbox has one value in all its places.
 use super::{listened, spoken, write_reply};
 use calls::{Column, Protocol};
-use libc::STDOUT_FILENO;
+use std::io;
 
 // What all say in a round: that they report, or the byte of the record, which is its point everywhere.
 fn word(round: u8) -> u16 {
@@ -13,13 +13,12 @@ fn word(round: u8) -> u16 {
 }
 
 // One line: what the column answers for its outcome, and with which grade.
-fn write_line(column: Column) {
+fn write_line(rt: &impl Print, column: Column) -> io::Result<()> {
     let asked = calls::outcome(column);
-    io::write_all(STDOUT_FILENO, b"2 posted grade ");
-    io::print_decimal(STDOUT_FILENO, asked.grade as u64);
+    print!(rt; "2 posted grade {}", asked.grade)?;
     let reply = asked.reply;
     let bytes = asked.bytes;
-    write_reply(reply, bytes);
+    write_reply(rt, reply, bytes)
 }
 
 // All rounds, 1 to 6.
@@ -32,10 +31,10 @@ fn ended(column: Column) -> Column {
     now
 }
 
-pub(super) fn run() {
+pub(super) fn run(rt: &impl Print) -> io::Result<()> {
     let handed = [0u8];
     let made = calls::fresh(Protocol::Posting(1), 4, 1, 2, &handed);
     let column = made.column;
-    write_line(column);
-    write_line(ended(column));
+    write_line(rt, column)?;
+    write_line(rt, ended(column))
 }

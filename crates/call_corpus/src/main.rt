@@ -8,8 +8,19 @@ mod calling;
 mod printing;
 mod reading;
 
+use std::io;
+use std::io::{Read, Write};
+
 // Plays a case: of each slice's room as much is lent as the header says.
-fn play(header: &[u8], a: &mut [u8], b: &mut [u8], v: &mut [u16], w: &mut [u16]) {
+fn play<R: Read, W: Write>(
+    header: &[u8],
+    a: &mut [u8],
+    b: &mut [u8],
+    v: &mut [u16],
+    w: &mut [u16],
+    input: &mut R,
+    output: &mut W,
+) -> io::Result<()> {
     let a_len = reading::byte_count(header, 17, a);
     let b_len = reading::byte_count(header, 19, b);
     let v_len = reading::value_count(header, 21, v);
@@ -20,15 +31,25 @@ fn play(header: &[u8], a: &mut [u8], b: &mut [u8], v: &mut [u16], w: &mut [u16])
         &mut b[..b_len],
         &mut v[..v_len],
         &mut w[..w_len],
-    );
+        input,
+        output,
+    )
 }
 
 // The slices have the lengths of the case, also where one is wrong for the call: it is the call that refuses.
-fn answer(header: &[u8], a: &mut [u8], b: &mut [u8], v: &mut [u16], w: &mut [u16]) {
-    reading::bytes(a);
-    reading::bytes(b);
-    reading::values(v);
-    reading::values(w);
+fn answer<R: Read, W: Write>(
+    header: &[u8],
+    a: &mut [u8],
+    b: &mut [u8],
+    v: &mut [u16],
+    w: &mut [u16],
+    input: &mut R,
+    output: &mut W,
+) -> io::Result<()> {
+    reading::bytes(input, a)?;
+    reading::bytes(input, b)?;
+    reading::values(input, v)?;
+    reading::values(input, w)?;
     let number = calling::call(
         messages::byte(header, 0),
         reading::numbers(header),
@@ -37,28 +58,31 @@ fn answer(header: &[u8], a: &mut [u8], b: &mut [u8], v: &mut [u16], w: &mut [u16
         v,
         w,
     );
-    printing::line(number, b, v, w);
+    printing::line(output, number, b, v, w)
 }
 
 // Plays one case; false where the input has no whole header left. The room is new for each case, so that none sees what another left.
-fn play_next() -> bool {
+fn play_next<R: Read, W: Write>(input: &mut R, output: &mut W) -> io::Result<bool> {
     let mut header = [0u8; 25];
-    if reading::bytes(&mut header) < 25 {
-        return false;
+    if reading::bytes(input, &mut header)? < 25 {
+        return Ok(false);
     }
     let mut a = [0u8; 43008];
     let mut b = [0u8; 2048];
     let mut v = [0u16; 2048];
     let mut w = [0u16; 16];
-    play(&header, &mut a, &mut b, &mut v, &mut w);
-    true
+    play(&header, &mut a, &mut b, &mut v, &mut w, input, output)?;
+    Ok(true)
 }
 
 // Plays to the end of the input. A loop has to be one that ends, so it counts: to more than any store of cases has.
-fn main() {
+fn main(rt: HostRuntime) -> io::Result<()> {
+    let mut input = rt.stdin();
+    let mut output = rt.stdout();
     for _ in 0..1000000u32 {
-        if !play_next() {
-            return;
+        if !play_next(&mut input, &mut output)? {
+            break;
         }
     }
+    Ok(())
 }

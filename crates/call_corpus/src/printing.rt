@@ -1,5 +1,6 @@
 // The line of a case. It is put together in a text and written at once, since a system call for each digit would be slow.
-use libc::STDOUT_FILENO;
+use std::io;
+use std::io::Write;
 
 // Room for the longest line but for its number: three spaces, 4,096 digits of bytes, 8,192 and 64 of values, and a newline.
 type Text = [u8; 12356];
@@ -53,19 +54,25 @@ fn put_values(text: &mut Text, at: u32, values: &[u16]) -> u32 {
     next
 }
 
-// The first bytes of a text. `io::count` answers a number that is known to lie within it.
-fn print(text: Text, len: u32) {
-    let shown = io::count(len as isize, &text);
-    io::write_all(STDOUT_FILENO, &text[..shown]);
+// The first bytes of a text, all of them where it has no more.
+fn print<W: Write>(output: &mut W, text: &Text, len: u32) -> io::Result<()> {
+    let shown = text.len().min(len as usize);
+    output.write_all(&text[..shown])
 }
 
 // The answer, the slices and a newline.
-pub(super) fn line(answer: usize, b: &[u8], v: &[u16], w: &[u16]) {
-    io::print_decimal(STDOUT_FILENO, answer as u64);
+pub(super) fn line<W: Write>(
+    output: &mut W,
+    answer: usize,
+    b: &[u8],
+    v: &[u16],
+    w: &[u16],
+) -> io::Result<()> {
+    write!(output, "{answer}")?;
     let mut text = [0u8; 12356];
     let at = put_bytes(&mut text, 0, b);
     let at = put_values(&mut text, at, v);
     let at = put_values(&mut text, at, w);
     let at = put_byte(&mut text, at, b'\n');
-    print(text, at);
+    print(output, &text, at)
 }

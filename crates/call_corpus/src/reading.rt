@@ -1,13 +1,14 @@
 // Numbers and slices of a case. A number of several bytes has its low byte first.
-ghost use Rattle.std.specs.Prelude.{◌≤◌};
+ghost use Rattle.std.specs.Prelude.{◌≡◌, ◌≤◌, length, take};
 ghost use Rattle.io.specs.Counts.{IsPrefixLen};
 
 use crate::calling::Numbers;
-use libc::STDIN_FILENO;
+use std::io;
+use std::io::Read;
 
 // Fills the slice, as far as the input goes.
-pub(super) fn bytes(room: &mut [u8]) -> usize {
-    io::read_full(STDIN_FILENO, room)
+pub(super) fn bytes<R: Read>(input: &mut R, room: &mut [u8]) -> io::Result<usize> {
+    streams::fill(input, room)
 }
 
 fn least(x: usize, y: usize) -> usize
@@ -23,7 +24,7 @@ fn least(x: usize, y: usize) -> usize
 pub(super) fn byte_count(header: &[u8], at: usize, room: &[u8]) -> usize
     ensures { IsPrefixLen result room.now }
 {
-    io::count(messages::word(header, at) as isize, room)
+    least(messages::word(header, at) as usize, room.len())
 }
 
 // The same for a slice of values.
@@ -56,14 +57,15 @@ fn unpack(bytes: &[u8], values: &mut [u16]) {
 }
 
 // Fills a slice of values by way of bytes, two for each.
-fn fill(bytes: &mut [u8], room: &mut [u16]) {
-    let len = io::count((2 * least(room.len(), 2048)) as isize, bytes);
-    io::read_full(STDIN_FILENO, &mut bytes[..len]);
+fn fill<R: Read>(input: &mut R, bytes: &mut [u8], room: &mut [u16]) -> io::Result<()> {
+    let len = least(2 * least(room.len(), 2048), bytes.len());
+    streams::fill(input, &mut bytes[..len])?;
     unpack(bytes, room);
+    Ok(())
 }
 
 // Fills a slice of up to 2,048 values.
-pub(super) fn values(room: &mut [u16]) {
+pub(super) fn values<R: Read>(input: &mut R, room: &mut [u16]) -> io::Result<()> {
     let mut bytes = [0u8; 4096];
-    fill(&mut bytes, room);
+    fill(input, &mut bytes, room)
 }

@@ -1,6 +1,5 @@
 // Numbers and slices of a case. A number of several bytes has its low byte first.
 ghost use Rattle.std.specs.Prelude.{◌≡◌, ◌≤◌, length, take};
-ghost use Rattle.io.specs.Counts.{IsPrefixLen};
 
 use crate::calling::Numbers;
 use std::io;
@@ -22,14 +21,16 @@ fn least(x: usize, y: usize) -> usize
 
 // How many bytes a slice is to have: what stands at a place of the header, at most what there is room for.
 pub(super) fn byte_count(header: &[u8], at: usize, room: &[u8]) -> usize
-    ensures { IsPrefixLen result room.now }
+    ensures within { result ≤ length room.now }
+    ensures long { result ≡ length (take result room.now) }
 {
     least(messages::word(header, at) as usize, room.len())
 }
 
 // The same for a slice of values.
 pub(super) fn value_count(header: &[u8], at: usize, room: &[u16]) -> usize
-    ensures { IsPrefixLen result room.now }
+    ensures within { result ≤ length room.now }
+    ensures long { result ≡ length (take result room.now) }
 {
     least(messages::word(header, at) as usize, room.len())
 }

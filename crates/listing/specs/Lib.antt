@@ -8,5 +8,4 @@ pub mod Writing
 pub mod Laws
 pub mod Longest
 pub mod Input
-pub mod Whole
 pub mod Number

@@ -1,6 +1,6 @@
 -- `of_input` meets its contract.
 use Rattle.std.proofs.Common.{arith, take}
-use Rattle.listing.specs.Whole.{printed_is, prints}
+use Rattle.listing.proofs.Whole.{printed_is, prints}
 use Rattle.listing.proofs.of_input.Goals as goal
 
 pub returns : goal.returns

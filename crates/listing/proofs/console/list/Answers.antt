@@ -1,6 +1,6 @@
 -- `console::list` meets its contract.
 use Rattle.std.proofs.Common.{sym, length-take-le}
-use Rattle.listing.specs.Whole.{printed_within}
+use Rattle.listing.proofs.Whole.{printed_within}
 use Rattle.listing.proofs.console.list.Goals as goal
 
 pub slice_bounds-text-end : goal.slice_bounds-text-end

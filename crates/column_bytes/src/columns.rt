@@ -8,8 +8,7 @@ use crate::numbers::narrow;
 use protocols::Protocol;
 
 // The rounds of a run of the protocol with this number on a wall of n columns; 0 where there is no such protocol or wall.
-#[unsafe(no_mangle)]
-pub extern "C" fn column_rounds(runs: u32, n: u32) -> usize
+pub fn column_rounds(runs: u32, n: u32) -> usize
     ensures { result ≡ rounds_of runs n }
 {
     if runs as usize >= protocols::PROTOCOLS {
@@ -22,8 +21,7 @@ pub extern "C" fn column_rounds(runs: u32, n: u32) -> usize
 }
 
 // The values of one message in a round; 0 where there is no such protocol, n or m is no wall's, or the run has no such round.
-#[unsafe(no_mangle)]
-pub extern "C" fn column_values(runs: u32, n: u32, m: u32, round: u32) -> usize
+pub fn column_values(runs: u32, n: u32, m: u32, round: u32) -> usize
     ensures { result ≡ values_of runs n m round }
 {
     if sizes::outside(4, 31, n as usize) {
@@ -41,8 +39,7 @@ pub extern "C" fn column_values(runs: u32, n: u32, m: u32, round: u32) -> usize
 
 // Makes column `own` of a wall of n columns that runs an agreement, with a record of m bytes, and writes its state: `calls::fresh`. Refused with 1, 2,
 // 3, then with 4 for a record not of m bytes or a slice for the state not of its length.
-#[unsafe(no_mangle)]
-pub extern "C" fn column_fresh(n: u32, m: u32, own: u32, record: &[u8], state: &mut [u8]) -> u8
+pub fn column_fresh(n: u32, m: u32, own: u32, record: &[u8], state: &mut [u8]) -> u8
     ensures { (result ≡ fresh_answer Agreement (narrow_of n) (narrow_of m) (narrow_of own) «record».now state.old)
         × (state.new ≡ fresh_state Agreement (narrow_of n) (narrow_of m) (narrow_of own) «record».now state.old) }
 {
@@ -57,15 +54,7 @@ pub extern "C" fn column_fresh(n: u32, m: u32, own: u32, record: &[u8], state: &
 }
 
 // The same of a posting by column `poster`, whose record alone is kept. Refused with 3 for its number too.
-#[unsafe(no_mangle)]
-pub extern "C" fn posting_fresh(
-    n: u32,
-    m: u32,
-    own: u32,
-    poster: u32,
-    record: &[u8],
-    state: &mut [u8],
-) -> u8
+pub fn posting_fresh(n: u32, m: u32, own: u32, poster: u32, record: &[u8], state: &mut [u8]) -> u8
     ensures { (result ≡ fresh_answer (Posting (narrow_of poster)) (narrow_of n) (narrow_of m) (narrow_of own) «record».now state.old)
         × (state.new ≡ fresh_state (Posting (narrow_of poster)) (narrow_of n) (narrow_of m) (narrow_of own) «record».now state.old) }
 {
@@ -80,8 +69,7 @@ pub extern "C" fn posting_fresh(
 }
 
 // Writes the messages of the round to the outgoing slice: `calls::speak`. Refused with 4 for a state not of its length, then 11, 10, 7, 4.
-#[unsafe(no_mangle)]
-pub extern "C" fn column_speak(state: &mut [u8], out: &mut [u16]) -> u8
+pub fn column_speak(state: &mut [u8], out: &mut [u16]) -> u8
     ensures { (result ≡ speak_answer state.old out.old) × (state.new ≡ speak_state state.old out.old)
         × (out.new ≡ speak_out state.old out.old) }
 {
@@ -94,8 +82,7 @@ pub extern "C" fn column_speak(state: &mut [u8], out: &mut [u16]) -> u8
 }
 
 // Reads the messages of the round from the incoming slice: `calls::listen`. Refused with 4 for a state not of its length, then 11, 10, 8, 4.
-#[unsafe(no_mangle)]
-pub extern "C" fn column_listen(state: &mut [u8], inbox: &[u16]) -> u8
+pub fn column_listen(state: &mut [u8], inbox: &[u16]) -> u8
     ensures { (result ≡ listen_answer state.old inbox.now) × (state.new ≡ listen_state state.old inbox.now) }
 {
     let bad = answers::state_refusal(state);
@@ -108,8 +95,7 @@ pub extern "C" fn column_listen(state: &mut [u8], inbox: &[u16]) -> u8
 
 // Writes what the column ended on to a slice of an entry's length: `calls::tell`, with the grade of the outcome and the last vote. Refused with 4 for
 // a state not of its length, then 11, 9, 4.
-#[unsafe(no_mangle)]
-pub extern "C" fn column_outcome(state: &[u8], out: &mut [u8]) -> u8
+pub fn column_outcome(state: &[u8], out: &mut [u8]) -> u8
     ensures { (result ≡ outcome_answer state.now out.old) × (out.new ≡ outcome_out state.now out.old) }
 {
     let bad = answers::state_refusal(state);

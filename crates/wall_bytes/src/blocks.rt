@@ -30,8 +30,7 @@ fn coefficients(decoded: Decoded) -> [u16; 4]
 
 // Decodes n points, by column number, and writes four coefficients, or four blanks where no polynomial meets enough of them: `decoder::decode`. Refused
 // with 1, then with 4 for a slice not of n points or one for the answer not of four values.
-#[unsafe(no_mangle)]
-pub extern "C" fn column_decode(n: u32, points: &[u16], out: &mut [u16]) -> u8
+pub fn column_decode(n: u32, points: &[u16], out: &mut [u16]) -> u8
     ensures { (result ≡ block_answer (narrow_of n) points.now out.old) × (out.new ≡ block_out (narrow_of n) points.now out.old) }
 {
     let decoded = decoder::decode(narrow(n), points);

@@ -7,9 +7,9 @@
  * posts its record to all others: there a column is made with posting_fresh. A state tells which protocol it runs, so all other calls are the
  * same for every protocol.
  *
- * Link with libcolumn_bytes.a, which `rt staticlib column_bytes` writes to target/staticlib/, for x86-64 Linux; it needs memcpy and memset
- * of the program that it is linked with. Every function here is proved to do what is said of it for every input (crates/column_bytes);
- * what is not proved is this file, so firmware/run tests it. Whole walls and the decoder, for tests and tools, are in wall.h.
+ * Link with libcolumn_bytes.a, which tools/archive writes to target/staticlib/, for x86-64 Linux; it needs memcpy and memset
+ * of the program that it is linked with. Every function here is proved to do what is said of it for every input (crates/column_bytes_c, over
+ * crates/column_bytes); what is not proved is this file, so firmware/run tests it. Whole walls and the decoder, for tests and tools, are in wall.h.
  *
  * C11 or C++11, and newer.
  *

@@ -2,8 +2,9 @@
  * Whole walls and the decoder, for tests and tools. A board needs none of these: what it calls is in column.h, and so is what is asked of slices.
  * Each call answers 0, or the number of a refusal (enum column_refusal), and a refused call has written nothing.
  *
- * Link with libwall_bytes.a, which `rt staticlib wall_bytes` writes beside the board's archive; a program that makes columns too links both. Every
- * function here is proved to do what is said of it for every input (crates/wall_bytes); what is not proved is this file, so firmware/run tests it.
+ * Link with libwall_bytes.a, which tools/archive writes beside the board's archive; a program that makes columns too links both. Every
+ * function here is proved to do what is said of it for every input (crates/wall_bytes_c, over crates/wall_bytes); what is not proved is this file,
+ * so firmware/run tests it.
  *
  * Stack. As in column.h, the most that a call takes, in bytes:
  *

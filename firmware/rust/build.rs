@@ -1,4 +1,4 @@
-//! Where the archives lie: in COLUMN_ARCHIVE, or where `rt staticlib` puts them.
+//! Where the archives lie: in COLUMN_ARCHIVE, or where tools/archive puts them.
 fn main() {
     let beside = format!("{}/../../target/staticlib", env!("CARGO_MANIFEST_DIR"));
     let archive = std::env::var("COLUMN_ARCHIVE").unwrap_or(beside);

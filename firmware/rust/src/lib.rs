@@ -1,6 +1,6 @@
 //! A column of a parcel locker wall, for Rust: a safe cover for the proved calls of `libcolumn_bytes.a`.
 //!
-//! What the calls do is said in `include/column.h` and proved in `crates/column_bytes`. Nothing is tested here: every length and every number is answered
+//! What the calls do is said in `include/column.h` and proved in `crates/column_bytes_c`. Nothing is tested here: every length and every number is answered
 //! by the call itself. What Rust can say and C cannot is added: that slices do not overlap, whose a state is, that a refusal must be looked at, and that
 //! there may be no record. Depend on it by its path; the archive is looked for in target/staticlib of this repository, or in the directory that
 //! COLUMN_ARCHIVE names. The feature `walls` adds whole walls and the decoder, of `include/wall.h`, which tests and tools call.

@@ -42,7 +42,7 @@ fn agrees(what: &str, k: usize, seed: u64, make: impl Fn(&Random) -> CallCase) -
     let stored = std::fs::File::create(path).and_then(|mut file| case.write(&mut file));
     println!("live: seed {seed}: the proved call and the reference differ in {what} {k}, {:?}{:?}", case.call, case.numbers);
     println!("the proved call: {ours}the reference:   {theirs}");
-    println!("'target/bin/call_corpus <{path}' and 'target/cargo/release/answer calls <{path}' play it again ({stored:?})");
+    println!("'target/bin/call_corpus <{path}', which 'tools/prove call_corpus' makes, and 'target/cargo/release/answer calls <{path}' play it again ({stored:?})");
     exit(1)
 }
 

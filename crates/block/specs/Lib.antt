@@ -1,6 +1,3 @@
--- Blocks of a record as polynomials: document 01, "Sizes of a wall".
--- Block: the definitions. Value: laws of a value. Apart: two different polynomials meet at few points. Algebra: sums and products.
+-- Blocks of a record as polynomials: document 01, "Sizes of a wall". Block: the definitions. Value: a value from the last coefficient on, as the code goes.
 pub mod Block
 pub mod Value
-pub mod Apart
-pub mod Algebra

@@ -9,11 +9,11 @@ use Rattle.lists.specs.Tests.{and_left, and_right, is_true, passes}
 use Rattle.protocols.specs.declared.Protocol.{Protocol}
 use Rattle.protocols.specs.declared.Kind.{Kind}
 use Rattle.sizes.specs.Sizes.{outside, refusal}
-use Rattle.sizes.specs.Laws.{inside, accepted}
+use Rattle.sizes.proofs.Laws.{inside, accepted}
 use Rattle.protocols.specs.Protocols.{rounds_in, values_in, kind_in, width}
-use Rattle.protocols.specs.Laws.{rounds_in_le, values_are}
+use Rattle.protocols.proofs.Laws.{rounds_in_le, values_are}
 use Rattle.messages.specs.Messages.{unless_refused}
-use Rattle.messages.specs.Laws.{refused_before, if_refused}
+use Rattle.messages.proofs.Laws.{refused_before, if_refused}
 use Rattle.agreement.specs.declared.Outcome.{Outcome}
 use Rattle.agreement.specs.declared.Stage.{Stage}
 use Rattle.agreement.specs.declared.Stage.TheVariants.{Speak, Listen, Ended}

@@ -10,10 +10,11 @@ use Rattle.lists.specs.Entries.{all_each, each_all, length_list_of, get_d_list_o
 use Rattle.lists.specs.Count.{mono}
 use Rattle.field.specs.Field.{blank}
 use Rattle.block.specs.Block.{block, meet}
-use Rattle.block.specs.Value.{value_lt, get_d_part, length_part, below_part}
-use Rattle.block.specs.Apart.{unique}
+use Rattle.block.proofs.Values.{value_lt, get_d_part, length_part, below_part}
+use Rattle.block.proofs.Apart.{unique}
 use Rattle.sizes.specs.Sizes.{degree, blocks}
-use Rattle.sizes.specs.Laws.{InRange, sized}
+use Rattle.sizes.specs.Laws.{InRange}
+use Rattle.sizes.proofs.Laws.{sized}
 use Rattle.messages.specs.Messages.{said}
 use Rattle.codeword.specs.Codeword.{Held, point, values, meet_in, meets}
 

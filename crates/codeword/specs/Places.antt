@@ -5,7 +5,7 @@ use Rattle.std.proofs.Math.Decide.{dec_lt}
 use Rattle.std.proofs.Math.ListN.{get_or-eq_default}
 use Rattle.lists.specs.Lists.{Below}
 use Rattle.block.specs.Block.{part}
-use Rattle.block.specs.Value.{get_d_part, length_part, below_part}
+use Rattle.block.proofs.Values.{get_d_part, length_part, below_part}
 use Rattle.codeword.specs.Codeword.{Held}
 
 module _ (m : ℕ) where

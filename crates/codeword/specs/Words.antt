@@ -11,9 +11,9 @@ use Rattle.lists.specs.Rows.{length_rows_of, rows_of_same, in_row_rows_of}
 use Rattle.field.specs.Field.{blank}
 use Rattle.block.specs.Block.{part, value, word_at}
 use Rattle.sizes.specs.Sizes.{degree, blocks, refusal as refusal_of_sizes}
-use Rattle.sizes.specs.Laws.{first_column}
+use Rattle.sizes.proofs.Laws.{first_column}
 use Rattle.messages.specs.Messages.{said, laid, written, refusal, unless_refused}
-use Rattle.messages.specs.Laws.{written_fits, if_done}
+use Rattle.messages.proofs.Laws.{written_fits, if_done}
 use Rattle.codeword.specs.Codeword.{point, values, values_for, codeword_at, codewords, codewords_refusal, across, across_refusal, written_across}
 use Rattle.codeword.specs.Apart.{said_values, said_past}
 

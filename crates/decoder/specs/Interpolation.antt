@@ -6,8 +6,8 @@ use Rattle.field.specs.Field.{of, subtract, multiply, inverse}
 use Rattle.field.specs.Congruence.{◌≋◌, with_multiples, by_multiples, times}
 use Rattle.field.specs.Laws.{inverse_small}
 use Rattle.block.specs.Block.{value}
-use Rattle.block.specs.Value.{value_lt, value_cons}
-use Rattle.block.specs.Apart.{quotient, quotient_length, quotient_below, division}
+use Rattle.block.proofs.Values.{value_lt, value_cons}
+use Rattle.block.proofs.Apart.{quotient, quotient_length, quotient_below, division}
 use Rattle.decoder.specs.Decoder.{slope, slopes, under, through}
 
 back : (a z : ℕ) → a < 257 → subtract (of (a + z)) (of z) ≡ a

@@ -1,8 +1,9 @@
 -- What is refused of a delivery, and what is not: for the code, and for whoever delivers on an accepted sheet.
 use Rattle.std.specs.Prelude.{◌≡◌, List, ℕ, ◌*◌, ◌≤◌}
 use Rattle.std.proofs.Math.Path.{sym}
-use Rattle.sizes.specs.Laws.{Accepted, accepted as accepted_sizes, not_refused as sizes_not_refused}
-use Rattle.messages.specs.Laws.{accepted, not_refused}
+use Rattle.sizes.specs.Laws.{Accepted}
+use Rattle.sizes.proofs.Laws.{accepted as accepted_sizes, not_refused as sizes_not_refused}
+use Rattle.messages.proofs.Laws.{accepted, not_refused}
 use Rattle.sheet.specs.Sheet.{columns, bytes}
 use Rattle.delivery.specs.declared.Round.{Round}
 use Rattle.delivery.specs.Delivery.{refusal}

@@ -16,9 +16,10 @@ use Rattle.lists.specs.Loops.{all_of, none_behind}
 use Rattle.lists.specs.Count.{count_same}
 use Rattle.field.specs.Field.{blank}
 use Rattle.sizes.specs.Sizes.{faults, blocks, refusal}
-use Rattle.sizes.specs.Laws.{Accepted, accepted, few_blocks, column_of_lem}
+use Rattle.sizes.specs.Laws.{Accepted}
+use Rattle.sizes.proofs.Laws.{accepted, few_blocks, column_of_lem}
 use Rattle.messages.specs.Messages.{read_point, read_report, said, heard, times}
-use Rattle.messages.specs.Laws.{point_is, same_report, same_point, heard_own, heard_other}
+use Rattle.messages.proofs.Laws.{point_is, same_report, same_point, heard_own, heard_other}
 use Rattle.codeword.specs.Codeword.{point, values, meet_in, meets, codewords, across, written_across}
 use Rattle.codeword.specs.Apart.{point_lt, length_values, said_values}
 use Rattle.codeword.specs.Words.{across_is, across_written, length_codewords}

@@ -13,9 +13,10 @@ use Rattle.lists.specs.Entries.{all_same}
 use Rattle.lists.specs.Count.{count_same}
 use Rattle.protocols.specs.declared.Protocol.{Protocol}
 use Rattle.sizes.specs.Sizes.{faults, degree, blocks, refusal as refusal_of_sizes}
-use Rattle.sizes.specs.Laws.{InRange, Sized, sized, accepted as accepted_sizes}
+use Rattle.sizes.specs.Laws.{InRange, Sized}
+use Rattle.sizes.proofs.Laws.{sized, accepted as accepted_sizes}
 use Rattle.protocols.specs.Protocols.{line_in, beside}
-use Rattle.protocols.specs.Laws.{line_le}
+use Rattle.protocols.proofs.Laws.{line_le}
 use Rattle.sheet.specs.Sheet.{columns, bytes, mark, unsound, unsound_to, arrays, whole, mark_fits, in_order, refusal_of_marks, refusal as refusal_of_sheet}
 use Rattle.wall_run.specs.Run.{refusal}
 use Rattle.wall_run.specs.Row.{accepted_run, run_refused}

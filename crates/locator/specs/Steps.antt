@@ -9,8 +9,8 @@ use Rattle.field.specs.Field.{of, subtract, multiply}
 use Rattle.field.specs.Congruence.{◌≋◌, reduce, plus, scale, times, products}
 use Rattle.field.specs.Laws.{cancel}
 use Rattle.block.specs.Block.{value}
-use Rattle.block.specs.Value.{value_lt}
-use Rattle.block.specs.Algebra.{sum, scale as scaled, raised as raised_by, value_sum, value_scale, value_raised, length_sum, length_scale, length_raised, length_raised_none}
+use Rattle.block.proofs.Values.{value_lt}
+use Rattle.block.proofs.Algebra.{sum, scale as scaled, raised as raised_by, value_sum, value_scale, value_raised, length_sum, length_scale, length_raised, length_raised_none}
 use Rattle.locator.specs.Held.{held_cleared, held_raised}
 use Rattle.messages.specs.Messages.{said as point_at}
 use Rattle.locator.specs.Locator.{discrepancy, mixed_at, cleared, raised_at, raised}

@@ -100,7 +100,7 @@ module _ {S K : Type 0} (M : Machine S K) where
     pub records : (i : ℕ) → Sound n H i → (length (held i) ≡ m) × Below 256 (held i)
     -- "In each list 3t + 8 calls to speak and as many to listen come in turn, the first to speak, with slices of the required length"; 6 of
     -- each in a posting
-    pub in_turn_lem : (i : ℕ) → Sound n H i → leading_calls M.call (lists i) ≡ turns (out i) (inbox i) 1 (rounds_in p n)
+    pub calls_in_turn : (i : ℕ) → Sound n H i → leading_calls M.call (lists i) ≡ turns (out i) (inbox i) 1 (rounds_in p n)
     pub out_length : (i r : ℕ) → Sound n H i → 1 ≤ r → r ≤ rounds_in p n → length (out i r) ≡ n * values_in p n m r
     pub inbox_length : (i r : ℕ) → Sound n H i → 1 ≤ r → r ≤ rounds_in p n → length (inbox i r) ≡ n * values_in p n m r
     pub extras : (i : ℕ) → Sound n H i → T (allowed (made n m held i) (lists i))

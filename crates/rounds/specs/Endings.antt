@@ -8,7 +8,7 @@ use Rattle.std.proofs.Math.Option.{Option, none, some}
 use Rattle.sizes.specs.Sizes.{blocks}
 use Rattle.dissemination.specs.declared.decoding.Disseminated.{Disseminated}
 use Rattle.dissemination.specs.Dissemination.{spoken, points_in, record_of, answer_of, round_refusal as points_refusal, disseminated}
-use Rattle.dissemination.specs.Decoding.{disseminated_answer}
+use Rattle.dissemination.proofs.Decoded.{disseminated_answer}
 use Rattle.agreement.specs.declared.Outcome.TheVariants.{Nothing, Record}
 use Rattle.agreement.specs.declared.Stage.TheVariants.{Ended}
 use Rattle.agreement.specs.declared.Column.{Column}

@@ -5,12 +5,13 @@ use Rattle.std.proofs.Math.Path.{refl}
 use Rattle.std.proofs.Common.{ap, ◌∙◌}
 use borrow.Author.Tests.{eq-eqb, ne_eqb}
 use Rattle.sizes.specs.Sizes.{blocks, refusal}
-use Rattle.sizes.specs.Laws.{columns_of, first_column}
+use Rattle.sizes.proofs.Laws.{columns_of, first_column}
 use Rattle.messages.specs.Messages.{to_all, to_all_refusal}
-use Rattle.messages.specs.Laws.{to_all_same, not_refused, accepted}
+use Rattle.messages.proofs.Laws.{to_all_same, not_refused, accepted}
 use Rattle.dispersal.specs.Dispersal.{exchange_refusal}
 use Rattle.dissemination.specs.Dissemination.{spoken, round_refusal as points_refusal}
-use Rattle.dissemination.specs.Laws.{silenced, said_silenced}
+use Rattle.dissemination.specs.Laws.{silenced}
+use Rattle.dissemination.proofs.Laws.{said_silenced}
 use Rattle.agreement.specs.declared.Stage.{Stage}
 use Rattle.agreement.specs.declared.Column.{Column}
 use Rattle.protocols.specs.declared.Kind.{Kind}

@@ -7,7 +7,8 @@ use Rattle.lists.specs.Tests.{is_true, passes}
 use Rattle.lists.specs.Entries.{all_each}
 use Rattle.lists.specs.Rows.{row_fits}
 use Rattle.sizes.specs.Sizes.{faults, refusal as refusal_of_sizes}
-use Rattle.sizes.specs.Laws.{InRange, accepted as accepted_sizes}
+use Rattle.sizes.specs.Laws.{InRange}
+use Rattle.sizes.proofs.Laws.{accepted as accepted_sizes}
 use Rattle.sheet.specs.Sheet.{columns, bytes, mark, unsound_to, record_place, record_of, arrays, whole, mark_fits, in_order, refusal_of_marks, refusal}
 
 -- WHERE THINGS STAND

@@ -3,7 +3,7 @@ use Rattle.std.specs.Prelude.{◌≡◌, List, ◌++◌, ℕ, ◌+◌, ◌-◌, 
 use Rattle.std.proofs.Common.{sym, ◌∙◌, append_assoc, append-nil, arith, length-append, length-drop, drop_of_length-le, take_at, drop_at, drop-drop}
 use Rattle.lists.specs.Loops.{all_of, none_behind}
 use Rattle.messages.specs.Messages.{put}
-use Rattle.messages.specs.Laws.{put_fits}
+use Rattle.messages.proofs.Laws.{put_fits}
 
 -- l was written to the front, a is the place after it, and the rest is as it was
 pub record Fronted (l : List ℕ) (a : ℕ) (d₀ d : List ℕ) : Type 0 where

@@ -7,7 +7,7 @@ use Rattle.lists.specs.Entries.{list_of_get_d, list_of_done}
 use Rattle.protocols.specs.declared.Protocol.{Protocol}
 use Rattle.field.specs.Field.{blank}
 use Rattle.messages.specs.Messages.{said, written, put}
-use Rattle.messages.specs.Laws.{written_fits}
+use Rattle.messages.proofs.Laws.{written_fits}
 use Rattle.agreement.specs.declared.Entry.{Entry}
 use Rattle.wall_run.specs.declared.Outcomes.{Outcomes}
 use Rattle.wall_run.specs.Run.{entries, outcomes, settled}

@@ -1,7 +1,7 @@
 -- A refused call leaves the lent slice as it was: of each call, for every input.
 use Rattle.std.specs.Prelude.{◌≡◌, List, ℕ}
 use Rattle.protocols.specs.declared.Protocol.{Protocol}
-use Rattle.messages.specs.Laws.{if_refused}
+use Rattle.messages.proofs.Laws.{if_refused}
 use Rattle.wall_bytes.specs.Calls.{wall_answer, wall_row, block_answer, block_out}
 
 pub wall_refused : (p : Protocol) (sheet row : List ℕ) → (wall_answer p sheet row ≡ 0 → ⊥) → wall_row p sheet row ≡ row

@@ -6,7 +6,7 @@ use Rattle.lists.specs.Lists.{Below}
 use Rattle.lists.specs.Entries.{length_list_of}
 use Rattle.protocols.specs.declared.Protocol.{Protocol}
 use Rattle.protocols.specs.declared.Protocol.TheVariants.{Agreement, Posting}
-use Rattle.messages.specs.Laws.{if_done}
+use Rattle.messages.proofs.Laws.{if_done}
 use Rattle.sheet.specs.Sheet.{columns}
 use Rattle.agreement.specs.declared.Entry.{Entry}
 use Rattle.agreement.specs.Entries.{mark_only}
@@ -17,7 +17,7 @@ use Rattle.wall_run.specs.Theorem.{demand_as, wall_demand}
 use Rattle.wall_run.specs.Settling.{settled_as, wall_settled}
 use Rattle.wall_run.specs.Posting.{posted_as, wall_posted}
 use Rattle.state_bytes.specs.Entry.{entry_length, entry_bytes, read_entry}
-use Rattle.state_bytes.specs.Inverse.{entry_read, entry_long}
+use Rattle.state_bytes.proofs.Inverse.{entry_read, entry_long}
 use Rattle.wall_bytes.specs.Calls.{row_bytes, places, wall_answer, wall_row}
 
 -- column i's entry of a row of bytes, as it reads

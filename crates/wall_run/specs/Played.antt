@@ -16,18 +16,18 @@ use Rattle.lists.specs.Count.{mono}
 use Rattle.field.specs.Field.{blank}
 use Rattle.protocols.specs.declared.Protocol.{Protocol}
 use Rattle.sizes.specs.Sizes.{refusal as refusal_of_sizes}
-use Rattle.sizes.specs.Laws.{not_refused as sizes_accepted, accepted as sizes_inside}
+use Rattle.sizes.proofs.Laws.{not_refused as sizes_accepted, accepted as sizes_inside}
 use Rattle.protocols.specs.Protocols.{rounds_in, values_in, line_in, beside}
 use Rattle.messages.specs.Wall.{Wall, Sound, Delivered}
 use Rattle.agreement.specs.declared.Column.{Column}
 use Rattle.agreement.specs.Calls.{speak, written, listen}
 use Rattle.machine.specs.Machine.{Call}
 use Rattle.machine.specs.Lists.{Item, in_turn, wrote, made, Run}
-use Rattle.machine.specs.Carried.{all_calls, all_allowed}
+use Rattle.machine.proofs.Carried.{all_calls, all_allowed}
 use Rattle.agreement.specs.Machine.{after as after_call, machine, plain}
-use Rattle.agreement.specs.Course.{course}
-use Rattle.agreement.specs.Runs.{fresh_accepted, fresh_is_made}
-use Rattle.agreement.specs.Walk.{Ready, Walked, walk, speaks_in, listens_in}
+use Rattle.agreement.proofs.Course.{course}
+use Rattle.agreement.proofs.Runs.{fresh_accepted, fresh_is_made}
+use Rattle.agreement.proofs.Walk.{Ready, Walked, walk, speaks_in, listens_in}
 use Rattle.sheet.specs.Sheet.{columns, bytes, mark, sound, unsound, unsound_to, record_place, record_of}
 use Rattle.sheet.specs.Laws.{Accepted, record_length}
 use Rattle.delivery.specs.Delivery.{sent, inbox}
@@ -132,7 +132,7 @@ module _ (p : Protocol) (sheet : List ℕ) {rows : ℕ} (small : Below 256 sheet
         poster_low = (sizes_inside n m (beside p) poster).number_low;
         poster_high = (sizes_inside n m (beside p) poster).number_high;
         records = λ i si. (full i si, bytes_small i si);
-        in_turn_lem = λ i si. all_calls (machine p) (plain p) _;
+        calls_in_turn = λ i si. all_calls (machine p) (plain p) _;
         out_length = λ i r si l u. lent_length r;
         inbox_length = λ i r si l u. delivered_length i r;
         extras = λ i si. all_allowed (machine p) (plain p) (made (machine p) n m (record_of sheet) i) _;

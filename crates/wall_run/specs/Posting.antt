@@ -13,15 +13,15 @@ use Rattle.machine.specs.Lists.{leading_calls, final, made}
 use Rattle.agreement.specs.Machine.{machine}
 use Rattle.machine.specs.Machine.{Asks}
 use Rattle.machine.specs.Gradecast.{Outputs, Posted as PostedOfCalls}
-use Rattle.machine.specs.Carried.{gradecast_as}
-use Rattle.agreement.specs.Binding.{vote_lasts}
-use Rattle.agreement.specs.Posting.{posts}
+use Rattle.machine.proofs.Carried.{gradecast_as}
+use Rattle.agreement.proofs.Binding.{vote_lasts}
+use Rattle.agreement.proofs.Posting.{posts}
 use Rattle.sheet.specs.Sheet.{columns, bytes, sound, record_of}
 use Rattle.sheet.specs.Laws.{Accepted}
 use Rattle.agreement.specs.declared.Entry.{Entry}
 use Rattle.agreement.specs.Calls.{outcome}
 use Rattle.agreement.specs.Entries.{entry_asked, sound_entry, ended_on}
-use Rattle.agreement.specs.Endings.{ends_as}
+use Rattle.agreement.proofs.Endings.{ends_as}
 use Rattle.wall_run.specs.Run.{entries, refusal, row_after, outcomes}
 use Rattle.wall_run.specs.Row.{accepted_run, run_done, outcomes_refusal}
 use Rattle.wall_run.specs.Claim.{entry_of_column, Posted}

@@ -6,7 +6,7 @@ use Rattle.lists.specs.Entries.{sum_more, sum_le}
 use Rattle.protocols.specs.declared.Protocol.{Protocol}
 use Rattle.sizes.specs.Laws.{InRange}
 use Rattle.protocols.specs.Protocols.{rounds_in, values_in, line_in}
-use Rattle.protocols.specs.Laws.{values_by_kind, values_in_le, width_all_le}
+use Rattle.protocols.proofs.Laws.{values_by_kind, values_in_le, width_all_le}
 use Rattle.agreement.specs.declared.Column.{Column}
 use Rattle.sheet.specs.Sheet.{columns, bytes}
 use Rattle.delivery.specs.declared.Round.{Round}

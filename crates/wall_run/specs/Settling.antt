@@ -3,12 +3,12 @@ use Rattle.std.specs.Prelude.{◌≡◌, List, ℕ, ◌≤◌, length}
 use Rattle.std.proofs.Common.{sym, ap, ◌∙◌}
 use Rattle.lists.specs.Lists.{Below}
 use Rattle.protocols.specs.declared.Protocol.TheVariants.{Agreement}
-use Rattle.machine.specs.Carried.{last_vote}
+use Rattle.machine.proofs.Carried.{last_vote}
 use Rattle.agreement.specs.declared.Entry.{Entry}
 use Rattle.agreement.specs.Calls.{outcome}
 use Rattle.agreement.specs.Entries.{entry_asked, sound_entry}
 use Rattle.agreement.specs.Machine.{machine}
-use Rattle.agreement.specs.Settling.{settles}
+use Rattle.agreement.proofs.Settling.{settles}
 use Rattle.sheet.specs.Sheet.{columns}
 use Rattle.wall_run.specs.Run.{entries, refusal, row_after, outcomes}
 use Rattle.wall_run.specs.Row.{accepted_run, run_done, outcomes_refusal}

@@ -9,7 +9,7 @@ use Rattle.lists.specs.Rows.{length_rows_of}
 use Rattle.lists.specs.Loops.{Rowed, rowed_fits}
 use Rattle.protocols.specs.Protocols.{values_in, kind_in}
 use Rattle.messages.specs.Messages.{said, unless_refused}
-use Rattle.messages.specs.Laws.{accepted}
+use Rattle.messages.proofs.Laws.{accepted}
 use Rattle.agreement.specs.declared.Column.{Column}
 use Rattle.agreement.specs.Rounds.{message, outgoing}
 use Rattle.agreement.specs.Calls.{round_of, when_speaking, in_state, in_round, speak_refusal, written}

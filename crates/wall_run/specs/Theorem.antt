@@ -8,23 +8,23 @@ use Rattle.protocols.specs.declared.Protocol.{Protocol}
 use Rattle.protocols.specs.declared.Protocol.TheVariants.{Agreement}
 use Rattle.sizes.specs.Sizes.{refusal as refusal_of_sizes}
 use Rattle.protocols.specs.Protocols.{rounds_in, line_in, beside, posts}
-use Rattle.protocols.specs.Laws.{rounds_in_some}
+use Rattle.protocols.proofs.Laws.{rounds_in_some}
 use Rattle.messages.specs.Wall.{Sound}
 use Rattle.agreement.specs.declared.Column.{Column}
 use Rattle.machine.specs.Lists.{after_leading, leading_calls}
 use Rattle.agreement.specs.Machine.{machine}
 use Rattle.machine.specs.Machine.{Asks}
 use Rattle.machine.specs.Claim.{Demand as DemandOfCalls, leaves}
-use Rattle.machine.specs.Carried.{agreed_as}
-use Rattle.agreement.specs.Agreeing.{grade_lasts}
-use Rattle.agreement.specs.Course.{course, course_is}
-use Rattle.agreement.specs.Theorem.{third_demand}
+use Rattle.machine.proofs.Carried.{agreed_as}
+use Rattle.agreement.proofs.Agreeing.{grade_lasts}
+use Rattle.agreement.proofs.Course.{course, course_is}
+use Rattle.agreement.proofs.Theorem.{third_demand}
 use Rattle.sheet.specs.Sheet.{columns, bytes, sound, record_of}
 use Rattle.sheet.specs.Laws.{Accepted}
 use Rattle.agreement.specs.declared.Entry.{Entry}
 use Rattle.agreement.specs.Calls.{reply_of, grade_shown, outcome}
 use Rattle.agreement.specs.Entries.{entry_asked, sound_entry, ended_on}
-use Rattle.agreement.specs.Endings.{ends_as}
+use Rattle.agreement.proofs.Endings.{ends_as}
 use Rattle.wall_run.specs.Run.{entries, refusal, row_after, outcomes}
 use Rattle.wall_run.specs.Row.{accepted_run, run_done, outcomes_refusal}
 use Rattle.wall_run.specs.Claim.{entry_of_column, Demand}

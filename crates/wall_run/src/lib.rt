@@ -3,7 +3,7 @@
 
 mod entries;
 mod listening;
-mod rounds;
+mod playing;
 mod row;
 mod space;
 mod speaking;
@@ -53,7 +53,7 @@ pub fn outcomes_of(protocol: Protocol, sheet: &[u8], rows: usize) -> Outcomes
             entries: entries,
         };
     }
-    let wall = rounds::ended(protocol, sheet);
+    let wall = playing::ended(protocol, sheet);
     let entries = entries::all(sheet, wall);
     Outcomes {
         refusal: 0,

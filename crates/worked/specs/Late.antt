@@ -9,13 +9,13 @@ use Rattle.lists.specs.Entries.{all_each}
 use Rattle.sizes.specs.Sizes.{faults}
 use Rattle.protocols.specs.declared.Protocol.TheVariants.{Agreement}
 use Rattle.protocols.specs.Protocols.{rounds_in}
-use Rattle.protocols.specs.Laws.{rounds_in_some}
+use Rattle.protocols.proofs.Laws.{rounds_in_some}
 use Rattle.messages.specs.Wall.{Sound}
 use Rattle.machine.specs.Lists.{after_leading, made}
 use Rattle.machine.specs.Settled.{Settled}
 use Rattle.agreement.specs.declared.Column.{Column}
 use Rattle.agreement.specs.Machine.{machine}
-use Rattle.agreement.specs.Settling.{settles}
+use Rattle.agreement.proofs.Settling.{settles}
 use Rattle.sheet.specs.Sheet.{columns, bytes, mark, sound, record_of}
 use Rattle.wall_run.specs.Run.{column_at, after}
 use Rattle.wall_run.specs.Row.{accepted_run}

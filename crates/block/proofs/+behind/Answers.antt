@@ -3,7 +3,8 @@ use Rattle.std.proofs.Common.{ap, ◌∙◌, ◌-◌}
 use Rattle.field.specs.Field.{add, multiply}
 use Rattle.field.specs.declared.Field.{Field}
 use Rattle.block.specs.Block.{part}
-use Rattle.block.specs.Value.{behind as behind_of, behind_none, behind_more}
+use Rattle.block.specs.Value.{behind as behind_of}
+use Rattle.block.proofs.Values.{behind_none, behind_more}
 use Rattle.block.proofs.+behind.Goals as goal
 
 pub returns-then-count-eq0 : goal.returns-then-count-eq0

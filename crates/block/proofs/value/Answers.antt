@@ -1,7 +1,7 @@
 -- `value` meets its contract: nothing stands behind the last coefficient.
 use Rattle.std.proofs.Common.{ap, ◌∙◌}
 use Rattle.field.specs.Field.{element}
-use Rattle.block.specs.Value.{behind_zero}
+use Rattle.block.proofs.Values.{behind_zero}
 use Rattle.block.proofs.value.Goals as goal
 
 pub returns : goal.returns

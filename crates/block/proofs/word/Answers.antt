@@ -2,7 +2,7 @@
 use Rattle.std.proofs.Common.{◌∙◌, arith}
 use Rattle.lists.specs.Loops.{filled_none, filled_more, filled_done}
 use Rattle.block.specs.Block.{word_at}
-use Rattle.block.specs.Value.{behind_zero}
+use Rattle.block.proofs.Values.{behind_zero}
 use Rattle.block.proofs.word.Goals as goal
 
 pub loop-i-init : goal.loop-i-init

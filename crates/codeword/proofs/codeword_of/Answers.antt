@@ -2,7 +2,7 @@
 use Rattle.std.proofs.Common.{ap, mul-le-mul, arith, ◌∙◌, List, ℕ}
 use Rattle.lists.specs.Lists.{list_of}
 use Rattle.block.specs.Block.{part, word_at}
-use Rattle.block.specs.Value.{part_front}
+use Rattle.block.proofs.Values.{part_front}
 use Rattle.codeword.specs.Words.{row_none, row_word}
 use Rattle.codeword.proofs.codeword_of.Goals as goal
 

@@ -1,7 +1,7 @@
 -- `codewords` meets its contract.
 use Rattle.std.proofs.Common.{sym, ap, ◌∙◌, ℕ, length}
 use Rattle.messages.specs.Messages.{refusal}
-use Rattle.messages.specs.Laws.{if_refused, if_done, accepted as messages_accepted}
+use Rattle.messages.proofs.Laws.{if_refused, if_done, accepted as messages_accepted}
 use Rattle.codeword.proofs.codewords.Goals as goal
 
 pub returns-then-why-ne0 : goal.returns-then-why-ne0

@@ -1,6 +1,6 @@
 -- `fill` meets its contract: each branch hands on the size of a block as a literal.
 use Rattle.std.proofs.Common.{◌∙◌, arith}
-use Rattle.sizes.specs.Laws.{accepted, sized}
+use Rattle.sizes.proofs.Laws.{accepted, sized}
 use Rattle.codeword.specs.Words.{rows_are}
 use Rattle.codeword.proofs.fill.Goals as goal
 

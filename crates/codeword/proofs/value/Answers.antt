@@ -2,7 +2,7 @@
 use Rattle.std.proofs.Common.{ap, mul-le-mul, arith, lt-ltb, le-ltb, ◌∙◌, List, ℕ}
 use Rattle.field.specs.declared.Field.{Field}
 use Rattle.block.specs.Block.{part, value as value_of}
-use Rattle.block.specs.Value.{part_front}
+use Rattle.block.proofs.Values.{part_front}
 use Rattle.codeword.specs.Words.{value_in}
 use Rattle.codeword.proofs.value.Goals as goal
 

@@ -1,6 +1,6 @@
 -- `values` meets its contract.
 use Rattle.std.proofs.Common.{sym, ◌∙◌}
-use Rattle.sizes.specs.Laws.{first_column}
+use Rattle.sizes.proofs.Laws.{first_column}
 use Rattle.codeword.specs.Words.{values_refused, values_done}
 use Rattle.codeword.proofs.values.Goals as goal
 

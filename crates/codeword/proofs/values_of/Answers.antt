@@ -1,7 +1,7 @@
 -- `values_of` meets its contract.
 use Rattle.std.proofs.Common.{ap, arith, ◌∙◌, ℕ, ◌+◌}
 use Rattle.lists.specs.Loops.{filled_none, filled_more, filled_done}
-use Rattle.sizes.specs.Laws.{degree_le, accepted, sized}
+use Rattle.sizes.proofs.Laws.{degree_le, accepted, sized}
 use Rattle.messages.specs.Messages.{laid}
 use Rattle.codeword.specs.Words.{value_in_lem}
 use Rattle.codeword.proofs.values_of.Goals as goal

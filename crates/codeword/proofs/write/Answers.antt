@@ -1,7 +1,7 @@
 -- `write` meets its contract.
 use Rattle.std.proofs.Common.{sym, arith, ◌∙◌}
-use Rattle.sizes.specs.Laws.{accepted}
-use Rattle.messages.specs.Laws.{if_refused}
+use Rattle.sizes.proofs.Laws.{accepted}
+use Rattle.messages.proofs.Laws.{if_refused}
 use Rattle.codeword.specs.Codeword.{written_across}
 use Rattle.codeword.specs.Words.{across_fits, across_written}
 use Rattle.codeword.proofs.write.Goals as goal

@@ -1,8 +1,10 @@
 -- `answer` meets its contract.
 use Rattle.std.proofs.Common.{◌≡◌, List, ℕ, ◌+◌, arith}
 use Rattle.sizes.specs.Sizes.{faults, degree}
-use Rattle.decoder.specs.Exactly.{Accepts, sizes}
-use Rattle.decoder.specs.Answers.{Given, too_few}
+use Rattle.decoder.specs.Exactly.{Accepts}
+use Rattle.decoder.proofs.Exactly.{sizes}
+use Rattle.decoder.specs.Answers.{Given}
+use Rattle.decoder.proofs.Answers.{too_few}
 use Rattle.decoder.proofs.answer.Goals as goal
 
 -- the sizes that the ways to an answer are handed

@@ -1,7 +1,7 @@
 -- `by_locator` meets its contract.
 use Rattle.std.proofs.Common.{ap, arith, ℕ, ◌-◌, ◌*◌}
-use Rattle.decoder.specs.Exactly.{sizes}
-use Rattle.decoder.specs.Answers.{met, none_left, code_locates}
+use Rattle.decoder.proofs.Exactly.{sizes}
+use Rattle.decoder.proofs.Answers.{met, none_left, code_locates}
 use Rattle.decoder.proofs.by_locator.Goals as goal
 
 pub candidate-quick-requires : goal.candidate-quick-requires

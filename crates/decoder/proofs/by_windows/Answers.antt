@@ -1,8 +1,8 @@
 -- `by_windows` meets its contract.
 use Rattle.std.proofs.Common.{arith}
-use Rattle.decoder.specs.Exactly.{sizes}
-use Rattle.decoder.specs.Answers.{met}
-use Rattle.decoder.specs.Windows.{missed_none, missed_more, missed_all}
+use Rattle.decoder.proofs.Exactly.{sizes}
+use Rattle.decoder.proofs.Answers.{met}
+use Rattle.decoder.proofs.Windows.{missed_none, missed_more, missed_all}
 use Rattle.decoder.proofs.by_windows.Goals as goal
 
 pub overflow_add-end : goal.overflow_add-end

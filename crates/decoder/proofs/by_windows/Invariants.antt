@@ -1,5 +1,5 @@
 -- `by_windows` meets its contract.
-use Rattle.decoder.specs.Windows.{Missed}
+use Rattle.decoder.proofs.Windows.{Missed}
 use Rattle.decoder.proofs.by_windows.Given as goal
 
 abbrev pub invariant-loop : goal.invariant-loop

@@ -1,7 +1,7 @@
 -- `decode` meets its contract.
 use Rattle.std.proofs.Common.{ap, sym, ◌∙◌}
 use Rattle.decoder.specs.declared.Decoded.TheVariants.{Refused}
-use Rattle.decoder.specs.Exactly.{refused_columns, refused_points, accepts_of}
+use Rattle.decoder.proofs.Exactly.{refused_columns, refused_points, accepts_of}
 use Rattle.decoder.proofs.decode.Goals as goal
 
 pub returns-then-why-ne0 : goal.returns-then-why-ne0

@@ -1,5 +1,5 @@
 -- `window` meets its contract.
-use Rattle.decoder.specs.Windows.{through_window}
+use Rattle.decoder.proofs.Windows.{through_window}
 use Rattle.decoder.proofs.window.Goals as goal
 
 pub returns : goal.returns

@@ -1,6 +1,6 @@
 -- `deliver` meets its contract.
 use Rattle.std.proofs.Common.{◌≡◌, ◌∙◌, sym, ap, arith, ◌+◌, ◌-◌}
-use Rattle.messages.specs.Laws.{if_refused, if_done}
+use Rattle.messages.proofs.Laws.{if_refused, if_done}
 use Rattle.delivery.specs.Delivery.{inbox}
 use Rattle.delivery.specs.Refusals.{receives}
 use Rattle.delivery.proofs.deliver.Goals as goal

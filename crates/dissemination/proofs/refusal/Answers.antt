@@ -1,6 +1,6 @@
 -- `refusal` meets its contract.
 use Rattle.std.proofs.Common.{refl, ◌∙◌, arith}
-use Rattle.sizes.specs.Laws.{blocks_le}
+use Rattle.sizes.proofs.Laws.{blocks_le}
 use Rattle.dissemination.proofs.refusal.Goals as goal
 
 pub overflow_cast-blocks : goal.overflow_cast-blocks

@@ -1,6 +1,6 @@
 -- `crowned` meets its contract.
 use Rattle.std.proofs.Common.{◌≡◌, ◌∙◌, sym, arith, true, ⊎_elim, eq-eqb, ne_eqb}
-use Rattle.messages.specs.Laws.{bit_or_blank}
+use Rattle.messages.proofs.Laws.{bit_or_blank}
 use Rattle.king.specs.King.{crowned}
 use Rattle.king.proofs.crowned.Goals as goal
 

@@ -1,6 +1,6 @@
 -- `proposal` meets its contract.
 use Rattle.std.proofs.Common.{arith}
-use Rattle.sizes.specs.Laws.{faults_le}
+use Rattle.sizes.proofs.Laws.{faults_le}
 use Rattle.king.specs.King.{proposal}
 use Rattle.king.proofs.proposal.Goals as goal
 

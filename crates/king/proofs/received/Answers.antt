@@ -1,6 +1,6 @@
 -- `received` meets its contract.
 use Rattle.std.proofs.Common.{sym, arith, ◌∙◌}
-use Rattle.king.specs.Laws.{times_bits, times_none}
+use Rattle.king.proofs.Laws.{times_bits, times_none}
 use Rattle.king.proofs.received.Goals as goal
 
 pub returns-then-bit-gt1 : goal.returns-then-bit-gt1

@@ -1,9 +1,9 @@
 -- `settled` meets its contract.
 use Rattle.std.proofs.Common.{◌≡◌, refl, arith}
-use Rattle.sizes.specs.Laws.{faults_le}
+use Rattle.sizes.proofs.Laws.{faults_le}
 use Rattle.messages.specs.Messages.{from}
 use Rattle.king.specs.King.{settled, firm}
-use Rattle.king.specs.Laws.{chosen_lt}
+use Rattle.king.proofs.Laws.{chosen_lt}
 use Rattle.king.proofs.settled.Goals as goal
 
 pub overflow_sub-quorum : goal.overflow_sub-quorum

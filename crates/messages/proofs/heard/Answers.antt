@@ -1,7 +1,7 @@
 -- `heard` meets its contract.
 use Rattle.std.proofs.Common.{◌≡◌, ◌∙◌, sym, ap, arith, ℕ, ◌-◌, get_or}
 use Rattle.messages.specs.Messages.{said, heard}
-use Rattle.messages.specs.Laws.{heard_own, heard_other}
+use Rattle.messages.proofs.Laws.{heard_own, heard_other}
 use Rattle.messages.proofs.heard.Goals as goal
 
 pub returns-then-j-own : goal.returns-then-j-own

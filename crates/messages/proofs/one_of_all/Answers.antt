@@ -1,6 +1,6 @@
 -- `one_of_all` meets its contract.
 use Rattle.std.proofs.Common.{◌∙◌, inl, inr, arith}
-use Rattle.messages.specs.Laws.{one_of_others, one_of_own}
+use Rattle.messages.proofs.Laws.{one_of_others, one_of_own}
 use Rattle.messages.proofs.one_of_all.Goals as goal
 
 pub returns-then-own-eq0 : goal.returns-then-own-eq0

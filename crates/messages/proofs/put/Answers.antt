@@ -4,7 +4,7 @@ use Rattle.std.proofs.lemmas.Bool.{lt-leb}
 use Rattle.lists.specs.Lists.{list_of}
 use Rattle.lists.specs.Entries.{list_of_get_d}
 use Rattle.lists.specs.Loops.{filled_none, filled_more, filled_part}
-use Rattle.messages.specs.Laws.{put_fits, not_put}
+use Rattle.messages.proofs.Laws.{put_fits, not_put}
 use Rattle.messages.proofs.put.Goals as goal
 
 pub returns-then-part-bytes : goal.returns-then-part-bytes

@@ -1,6 +1,6 @@
 -- `refusal` meets its contract.
 use Rattle.std.proofs.Common.{sym, arith}
-use Rattle.messages.specs.Laws.{refused_before, refused_length, not_refused}
+use Rattle.messages.proofs.Laws.{refused_before, refused_length, not_refused}
 use Rattle.messages.proofs.refusal.Goals as goal
 
 pub returns-then-why-ne0 : goal.returns-then-why-ne0

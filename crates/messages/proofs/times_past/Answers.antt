@@ -3,7 +3,7 @@ use Rattle.std.proofs.Common.{sym, ap, arith, ◌∙◌, ℕ, eqb}
 use Rattle.lists.specs.Lists.{bit}
 use Rattle.lists.specs.Loops.{counted_none, counted_more, counted_done, bit_most}
 use Rattle.messages.specs.Messages.{times}
-use Rattle.messages.specs.Laws.{from_place}
+use Rattle.messages.proofs.Laws.{from_place}
 use Rattle.messages.proofs.times_past.Goals as goal
 
 pub loop-i-init : goal.loop-i-init

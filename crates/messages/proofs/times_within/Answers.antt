@@ -5,7 +5,7 @@ use Rattle.lists.specs.Entries.{get_d_within}
 use Rattle.lists.specs.Loops.{counted_none, counted_more, counted_done, bit_most}
 use Rattle.field.specs.Field.{blank}
 use Rattle.messages.specs.Messages.{said, times}
-use Rattle.messages.specs.Laws.{from_place}
+use Rattle.messages.proofs.Laws.{from_place}
 use Rattle.messages.proofs.times_within.Goals as goal
 
 pub loop-i-init : goal.loop-i-init

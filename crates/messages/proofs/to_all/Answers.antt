@@ -2,7 +2,7 @@
 use Rattle.std.proofs.Common.{◌≡◌, ◌∙◌, refl, length, sym, ap, arith, ℕ, ◌*◌}
 use Rattle.lists.specs.Loops.{rowed_none, rowed_fits, rowed_more, rowed_room, rowed_done}
 use Rattle.messages.specs.Messages.{refusal, to_all}
-use Rattle.messages.specs.Laws.{written_fits, accepted, if_refused, if_done}
+use Rattle.messages.proofs.Laws.{written_fits, accepted, if_refused, if_done}
 use Rattle.messages.proofs.to_all.Goals as goal
 
 pub returns-then-why-ne0 : goal.returns-then-why-ne0

@@ -1,7 +1,7 @@
 -- `write` meets its contract.
 use Rattle.std.proofs.Common.{le-leb, sym, ◌∙◌}
 use Rattle.std.proofs.lemmas.Bool.{lt-leb}
-use Rattle.messages.specs.Laws.{written_fits, not_written}
+use Rattle.messages.proofs.Laws.{written_fits, not_written}
 use Rattle.messages.proofs.write.Goals as goal
 
 pub returns-then-part-w : goal.returns-then-part-w

@@ -2,7 +2,7 @@
 use Rattle.std.proofs.Common.{refl, sym, ap, arith, ◌∙◌}
 use Rattle.protocols.specs.declared.Protocol.TheVariants.{Agreement}
 use Rattle.protocols.specs.Protocols.{kinds, kind_in}
-use Rattle.protocols.specs.Laws.{kind_first}
+use Rattle.protocols.proofs.Laws.{kind_first}
 use Rattle.protocols.proofs.agreement_kind.Goals as goal
 
 pub returns-then-round-le1 : goal.returns-then-round-le1

@@ -1,6 +1,6 @@
 -- `blocks` meets its contract.
 use Rattle.std.proofs.Common.{arith}
-use Rattle.sizes.specs.Laws.{blocks_le}
+use Rattle.sizes.proofs.Laws.{blocks_le}
 use Rattle.protocols.proofs.blocks.Goals as goal
 
 pub overflow_cast-result : goal.overflow_cast-result

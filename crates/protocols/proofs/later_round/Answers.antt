@@ -1,6 +1,6 @@
 -- `later_round` meets its contract: a law for each of its cases.
 use Rattle.std.proofs.Common.{sym, arith, ◌∙◌}
-use Rattle.protocols.specs.Laws.{rounds_agreement, kind_phase, kind_points, kind_kept}
+use Rattle.protocols.proofs.Laws.{rounds_agreement, kind_phase, kind_points, kind_kept}
 use Rattle.protocols.proofs.later_round.Goals as goal
 
 pub returns-then-next-last : goal.returns-then-next-last

@@ -1,7 +1,7 @@
 -- `line_in` meets its contract: the sums are small.
 use Rattle.std.proofs.Common.{sym, arith}
-use Rattle.sizes.specs.Laws.{faults_le, blocks_le}
-use Rattle.protocols.specs.Laws.{line_agreement, line_posting}
+use Rattle.sizes.proofs.Laws.{faults_le, blocks_le}
+use Rattle.protocols.proofs.Laws.{line_agreement, line_posting}
 use Rattle.protocols.proofs.line_in.Goals as goal
 
 pub overflow_mul-result : goal.overflow_mul-result

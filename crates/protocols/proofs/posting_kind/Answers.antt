@@ -2,7 +2,7 @@
 use Rattle.std.proofs.Common.{refl, sym, arith}
 use Rattle.protocols.specs.Protocols.{kinds, kind_in}
 use Rattle.protocols.specs.declared.Protocol.TheVariants.{Posting}
-use Rattle.protocols.specs.Laws.{kind_first, posting_last}
+use Rattle.protocols.proofs.Laws.{kind_first, posting_last}
 use Rattle.protocols.proofs.posting_kind.Goals as goal
 
 pub returns-then-round-le1 : goal.returns-then-round-le1

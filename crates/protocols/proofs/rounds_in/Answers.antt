@@ -1,7 +1,7 @@
 -- `rounds_in` meets its contract.
 use Rattle.std.proofs.Common.{sym, arith}
-use Rattle.sizes.specs.Laws.{faults_le}
-use Rattle.protocols.specs.Laws.{rounds_agreement, rounds_posting}
+use Rattle.sizes.proofs.Laws.{faults_le}
+use Rattle.protocols.proofs.Laws.{rounds_agreement, rounds_posting}
 use Rattle.protocols.proofs.rounds_in.Goals as goal
 
 pub overflow_mul-result : goal.overflow_mul-result

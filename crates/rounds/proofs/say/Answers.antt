@@ -1,6 +1,6 @@
 -- `say` meets its contract.
 use Rattle.std.proofs.Common.{sym, ◌∙◌}
-use Rattle.messages.specs.Laws.{if_refused, if_done}
+use Rattle.messages.proofs.Laws.{if_refused, if_done}
 use Rattle.rounds.specs.Ready.{ready}
 use Rattle.rounds.proofs.say.Goals as goal
 

@@ -1,7 +1,7 @@
 -- `blocks` meets its contract, for each d that there is.
 use Rattle.std.proofs.Common.{◌≡◌, ℕ, ◌+◌, ◌/◌, arith}
 use Rattle.sizes.specs.Sizes.{degree, blocks}
-use Rattle.sizes.specs.Laws.{degree_small}
+use Rattle.sizes.proofs.Laws.{degree_small}
 use Rattle.sizes.proofs.blocks.Goals as goal
 
 of_degree : (n m d : ℕ) → d ≡ degree n → (m + d) / (d + 1) ≡ blocks n m

@@ -1,7 +1,7 @@
 -- `degree` meets its contract: in each arm the formula gives its number.
 use Rattle.std.proofs.Common.{◌≡◌, sym, arith, ℕ, ◌-◌, ◌/◌, ◌≤◌}
 use Rattle.sizes.specs.Sizes.{degree}
-use Rattle.sizes.specs.Laws.{faults_formula, degree_formula, degree_past}
+use Rattle.sizes.proofs.Laws.{faults_formula, degree_formula, degree_past}
 use Rattle.sizes.proofs.degree.Goals as goal
 
 arm : (n d : ℕ) → n ≤ 31 → (n - 1) / 9 ≡ d → d ≡ degree n

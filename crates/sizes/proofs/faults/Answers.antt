@@ -1,7 +1,7 @@
 -- `faults` meets its contract: in each arm the formula gives its number.
 use Rattle.std.proofs.Common.{◌≡◌, sym, arith, ℕ, ◌-◌, ◌/◌, ◌≤◌}
 use Rattle.sizes.specs.Sizes.{faults}
-use Rattle.sizes.specs.Laws.{faults_formula, faults_past}
+use Rattle.sizes.proofs.Laws.{faults_formula, faults_past}
 use Rattle.sizes.proofs.faults.Goals as goal
 
 arm : (n t : ℕ) → n ≤ 31 → (n - 1) / 3 ≡ t → t ≡ faults n

@@ -1,6 +1,6 @@
 -- `encode` meets its contract.
 use Rattle.std.proofs.Common.{sym, ◌∙◌}
-use Rattle.messages.specs.Laws.{accepted, if_refused, if_done}
+use Rattle.messages.proofs.Laws.{accepted, if_refused, if_done}
 use Rattle.state_bytes.proofs.encode.Goals as goal
 
 pub returns-then-why-ne0 : goal.returns-then-why-ne0

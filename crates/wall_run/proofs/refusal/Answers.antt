@@ -1,7 +1,7 @@
 -- `refusal` meets its contract.
 use Rattle.std.proofs.Common.{refl, arith}
 use Rattle.wall_run.specs.Run.{refusal}
-use Rattle.protocols.specs.Laws.{line_in_le}
+use Rattle.protocols.proofs.Laws.{line_in_le}
 use Rattle.wall_run.proofs.refusal.Goals as goal
 
 pub overflow_cast-line_in : goal.overflow_cast-line_in

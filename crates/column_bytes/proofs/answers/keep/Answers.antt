@@ -1,7 +1,7 @@
 -- `answers::keep` meets its contract.
 use Rattle.std.proofs.Common.{◌≡◌, ◌∙◌, sym, ap, arith, ℕ, length}
 use Rattle.messages.specs.Messages.{refusal}
-use Rattle.messages.specs.Laws.{accepted, if_refused}
+use Rattle.messages.proofs.Laws.{accepted, if_refused}
 use Rattle.state_bytes.specs.Layout.{state_length}
 use Rattle.column_bytes.proofs.answers.keep.Goals as goal
 

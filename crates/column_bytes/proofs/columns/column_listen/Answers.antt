@@ -3,7 +3,7 @@ use Rattle.std.proofs.Common.{sym, ap, ◌∙◌}
 use Rattle.agreement.specs.declared.Column.{Column}
 use Rattle.agreement.specs.Calls.{listen}
 use Rattle.column_bytes.specs.Calls.{listen_answer, listen_state}
-use Rattle.column_bytes.specs.Laws.{fits_state, state_first, left_alone}
+use Rattle.column_bytes.proofs.Laws.{fits_state, state_first, left_alone}
 use Rattle.column_bytes.proofs.columns.column_listen.Goals as goal
 
 pub returns-then-bad-ne0 : goal.returns-then-bad-ne0

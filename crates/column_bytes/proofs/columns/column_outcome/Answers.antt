@@ -1,7 +1,7 @@
 -- `columns::column_outcome` meets its contract.
 use Rattle.std.proofs.Common.{◌≡◌, ◌∙◌, refl, ℕ, length, sym, ap}
 use Rattle.messages.specs.Messages.{refusal}
-use Rattle.messages.specs.Laws.{accepted, if_refused, if_done}
+use Rattle.messages.proofs.Laws.{accepted, if_refused, if_done}
 use Rattle.agreement.specs.declared.Column.{Column}
 use Rattle.agreement.specs.Calls.{outcome_refusal}
 use Rattle.agreement.specs.declared.Told.{Told}
@@ -10,7 +10,7 @@ use Rattle.state_bytes.specs.Layout.{decode}
 use Rattle.state_bytes.specs.Entry.{entry_length, entry_bytes}
 use Rattle.state_bytes.specs.Writing.{put_whole}
 use Rattle.column_bytes.specs.Calls.{outcome_answer, outcome_out}
-use Rattle.column_bytes.specs.Laws.{of_state, state_before, left_alone}
+use Rattle.column_bytes.proofs.Laws.{of_state, state_before, left_alone}
 use Rattle.column_bytes.proofs.columns.column_outcome.Goals as goal
 
 pub returns-then-bad-ne0 : goal.returns-then-bad-ne0

@@ -1,7 +1,7 @@
 -- `columns::column_rounds` meets its contract.
 use Rattle.std.proofs.Common.{refl, sym, arith, lt-ltb, le-ltb, ◌∙◌}
 use Rattle.protocols.specs.Protocols.{protocol_count}
-use Rattle.sizes.specs.Laws.{inside}
+use Rattle.sizes.proofs.Laws.{inside}
 use Rattle.column_bytes.specs.Calls.{rounds_of}
 use Rattle.column_bytes.proofs.columns.column_rounds.Goals as goal
 

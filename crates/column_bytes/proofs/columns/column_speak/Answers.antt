@@ -3,7 +3,7 @@ use Rattle.std.proofs.Common.{refl, sym, ap, ◌∙◌}
 use Rattle.agreement.specs.declared.Column.{Column}
 use Rattle.agreement.specs.Calls.{speak, written}
 use Rattle.column_bytes.specs.Calls.{speak_answer, speak_state, speak_out}
-use Rattle.column_bytes.specs.Laws.{is_state_lem, fits_state, no_state, state_first, left_alone}
+use Rattle.column_bytes.proofs.Laws.{is_state_lem, fits_state, no_state, state_first, left_alone}
 use Rattle.column_bytes.proofs.columns.column_speak.Goals as goal
 
 pub returns-then-bad-ne0 : goal.returns-then-bad-ne0

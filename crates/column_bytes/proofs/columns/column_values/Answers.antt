@@ -1,8 +1,8 @@
 -- `columns::column_values` meets its contract.
 use Rattle.std.proofs.Common.{refl, sym, arith, ◌∙◌}
-use Rattle.sizes.specs.Laws.{inside}
+use Rattle.sizes.proofs.Laws.{inside}
 use Rattle.column_bytes.specs.Calls.{values_of}
-use Rattle.column_bytes.specs.Laws.{runs_some}
+use Rattle.column_bytes.proofs.Laws.{runs_some}
 use Rattle.column_bytes.proofs.columns.column_values.Goals as goal
 
 pub returns-then-outside : goal.returns-then-outside

@@ -1,6 +1,6 @@
 -- `exchange::agreements` meets its contract.
 use Rattle.std.proofs.Common.{sym, ◌∙◌}
-use Rattle.messages.specs.Laws.{accepted as messages_accepted}
+use Rattle.messages.proofs.Laws.{accepted as messages_accepted}
 use Rattle.dispersal.specs.Laws.{agreed_refused, agreed_done}
 use Rattle.dispersal.proofs.exchange.agreements.Goals as goal
 

@@ -2,7 +2,7 @@
 use Rattle.std.proofs.Common.{refl, replicate, ◌∙◌, arith}
 use Rattle.lists.specs.Loops.{filled_none, filled_more, filled_done}
 use Rattle.field.specs.Field.{blank}
-use Rattle.sizes.specs.Laws.{blocks_le, accepted, few_blocks}
+use Rattle.sizes.proofs.Laws.{blocks_le, accepted, few_blocks}
 use Rattle.codeword.specs.Words.{codewords_in, length_codewords}
 use Rattle.dispersal.specs.Laws.{agreements_are}
 use Rattle.dispersal.proofs.exchange.flags.Goals as goal

@@ -1,6 +1,6 @@
 -- `exchange::send` meets its contract.
 use Rattle.std.proofs.Common.{sym, ◌∙◌}
-use Rattle.messages.specs.Laws.{if_refused, if_done, accepted as messages_accepted}
+use Rattle.messages.proofs.Laws.{if_refused, if_done, accepted as messages_accepted}
 use Rattle.dispersal.proofs.exchange.send.Goals as goal
 
 pub returns-then-why-ne0 : goal.returns-then-why-ne0

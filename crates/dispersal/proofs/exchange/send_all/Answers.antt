@@ -2,7 +2,7 @@
 use Rattle.std.proofs.Common.{refl, replicate, ◌∙◌, arith}
 use Rattle.lists.specs.Loops.{rowed_none, rowed_fits, rowed_more, rowed_room, rowed_done}
 use Rattle.field.specs.Field.{blank}
-use Rattle.sizes.specs.Laws.{blocks_le, accepted, few_blocks, column_of_lem}
+use Rattle.sizes.proofs.Laws.{blocks_le, accepted, few_blocks, column_of_lem}
 use Rattle.codeword.specs.Words.{codewords_in, length_codewords}
 use Rattle.dispersal.specs.Laws.{paired_is}
 use Rattle.dispersal.proofs.exchange.send_all.Goals as goal

@@ -3,7 +3,7 @@ use Rattle.std.proofs.Common.{◌-◌, arith, le-leb}
 use Rattle.std.proofs.lemmas.Bool.{lt-leb}
 use Rattle.lists.specs.Lists.{count}
 use Rattle.sizes.specs.Sizes.{faults}
-use Rattle.sizes.specs.Laws.{faults_le}
+use Rattle.sizes.proofs.Laws.{faults_le}
 use Rattle.dispersal.specs.Dispersal.{agrees, first_quorum, first_report}
 use Rattle.dispersal.specs.Laws.{both_self}
 use Rattle.dispersal.proofs.reports.first.Goals as goal

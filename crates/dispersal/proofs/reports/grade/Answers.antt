@@ -2,7 +2,7 @@
 use Rattle.std.proofs.Common.{sym, arith, le-leb, ◌∙◌, ◌+◌, ◌*◌}
 use Rattle.std.proofs.lemmas.Bool.{lt-leb}
 use Rattle.sizes.specs.Sizes.{faults}
-use Rattle.sizes.specs.Laws.{faults_le}
+use Rattle.sizes.proofs.Laws.{faults_le}
 use Rattle.messages.specs.Messages.{from, times}
 use Rattle.dispersal.specs.Dispersal.{read_reports, grade}
 use Rattle.dispersal.specs.Laws.{times_reports}

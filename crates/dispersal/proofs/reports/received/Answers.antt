@@ -3,7 +3,7 @@ use Rattle.std.proofs.Common.{◌≡◌, ◌∙◌, refl, false, List, eqb, ℕ,
 use Rattle.std.proofs.Math.ListN.{get_or-replicate}
 use Rattle.lists.specs.Loops.{filled_none, filled_more, filled_rest}
 use Rattle.messages.specs.Messages.{read_report, said, from}
-use Rattle.messages.specs.Laws.{from_place}
+use Rattle.messages.proofs.Laws.{from_place}
 use Rattle.dispersal.specs.Dispersal.{report_at, reports}
 use Rattle.dispersal.proofs.reports.received.Goals as goal
 

@@ -3,7 +3,7 @@ use Rattle.std.proofs.Common.{◌∙◌, ◌-◌, arith, le-leb}
 use Rattle.std.proofs.lemmas.Bool.{lt-leb}
 use Rattle.lists.specs.Lists.{count}
 use Rattle.sizes.specs.Sizes.{faults}
-use Rattle.sizes.specs.Laws.{faults_le}
+use Rattle.sizes.proofs.Laws.{faults_le}
 use Rattle.dispersal.specs.Dispersal.{agrees, reported, both, second_quorum}
 use Rattle.dispersal.proofs.reports.sends_second.Goals as goal
 

@@ -3,7 +3,8 @@ use Rattle.std.proofs.Common.{sym, ap, arith, length-take-le, ◌∙◌, List, �
 use Rattle.lists.specs.Entries.{length_list_of}
 use Rattle.lists.specs.Lists.{list_of}
 use Rattle.decoder.specs.Decoder.{decoded}
-use Rattle.dissemination.specs.Laws.{read_at, points_taken}
+use Rattle.dissemination.specs.Laws.{read_at}
+use Rattle.dissemination.proofs.Laws.{points_taken}
 use Rattle.dissemination.proofs.decoding.block.Goals as goal
 
 pub slice_bounds-decode-end : goal.slice_bounds-decode-end

@@ -1,9 +1,9 @@
 -- `decoding::decode` meets its contract.
 use Rattle.std.proofs.lemmas.Bool.{not-true, not-false}
 use Rattle.std.proofs.Common.{sym, arith, ◌∙◌}
-use Rattle.sizes.specs.Laws.{degree_le}
-use Rattle.messages.specs.Laws.{accepted as messages_accepted}
-use Rattle.dissemination.specs.Decoding.{decodes_told, disseminated_refused, disseminated_none, disseminated_some}
+use Rattle.sizes.proofs.Laws.{degree_le}
+use Rattle.messages.proofs.Laws.{accepted as messages_accepted}
+use Rattle.dissemination.proofs.Decoded.{decodes_told, disseminated_refused, disseminated_none, disseminated_some}
 use Rattle.dissemination.proofs.decoding.decode.Goals as goal
 
 pub returns-then-why-ne0 : goal.returns-then-why-ne0

@@ -1,12 +1,13 @@
 -- `decoding::decode_blocks` meets its contract.
 use Rattle.std.proofs.Math.Option.{none}
 use Rattle.std.proofs.Common.{◌≡◌, ◌∙◌, refl, sym, ap, not, mul-le-mul, arith, ℕ, ◌+◌}
-use Rattle.sizes.specs.Laws.{accepted, blocks_le, degree_le, few_blocks}
+use Rattle.sizes.proofs.Laws.{accepted, blocks_le, degree_le, few_blocks}
 use Rattle.decoder.specs.declared.Coefficients.{Coefficients}
 use Rattle.decoder.specs.declared.Decoded.{Decoded}
 use Rattle.decoder.specs.declared.Decoded.TheVariants.{Polynomial, Nothing, Refused}
 use Rattle.decoder.specs.Decoder.{polynomial_of}
-use Rattle.dissemination.specs.Decoding.{answer_in, block_missing, block_bytes, done_none, done_more, decodes_none, decodes_all}
+use Rattle.dissemination.specs.Decoding.{answer_in}
+use Rattle.dissemination.proofs.Decoded.{block_missing, block_bytes, done_none, done_more, decodes_none, decodes_all}
 use Rattle.dissemination.proofs.decoding.decode_blocks.Goals as goal
 
 -- an answer that is no polynomial

@@ -1,6 +1,6 @@
 -- `decoding::decode_blocks` meets its contract.
 use Rattle.sizes.specs.Sizes.{blocks}
-use Rattle.dissemination.specs.Decoding.{Done}
+use Rattle.dissemination.proofs.Decoded.{Done}
 use Rattle.dissemination.specs.Dissemination.{points_in}
 use Rattle.dissemination.proofs.decoding.decode_blocks.Given as goal
 

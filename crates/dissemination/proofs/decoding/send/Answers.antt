@@ -1,11 +1,11 @@
 -- `decoding::send` meets its contract.
 use Rattle.std.proofs.Common.{◌≡◌, ◌∙◌, sym, ap, arith, List, ℕ, length}
 use Rattle.sizes.specs.Sizes.{blocks}
-use Rattle.sizes.specs.Laws.{blocks_le, columns_of}
+use Rattle.sizes.proofs.Laws.{blocks_le, columns_of}
 use Rattle.messages.specs.Messages.{to_all_refusal, said}
-use Rattle.messages.specs.Laws.{if_refused, if_done, to_all_same, accepted as messages_accepted, not_refused}
+use Rattle.messages.proofs.Laws.{if_refused, if_done, to_all_same, accepted as messages_accepted, not_refused}
 use Rattle.dissemination.specs.Dissemination.{spoken}
-use Rattle.dissemination.specs.Laws.{said_silenced}
+use Rattle.dissemination.proofs.Laws.{said_silenced}
 use Rattle.dissemination.proofs.decoding.send.Goals as goal
 
 pub returns-then-why-ne0 : goal.returns-then-why-ne0

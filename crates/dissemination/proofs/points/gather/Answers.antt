@@ -4,7 +4,7 @@ use Rattle.std.proofs.Math.ListN.{get_or-replicate}
 use Rattle.lists.specs.Loops.{filled_none, filled_more, filled_rest}
 use Rattle.lists.specs.Rows.{row_fits}
 use Rattle.field.specs.Field.{blank}
-use Rattle.dissemination.specs.Kept.{placed_within, placed_past}
+use Rattle.dissemination.proofs.Kept.{placed_within, placed_past}
 use Rattle.dissemination.proofs.points.gather.Goals as goal
 
 pub loop-i-init : goal.loop-i-init

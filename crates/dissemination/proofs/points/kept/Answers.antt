@@ -1,7 +1,7 @@
 -- `points::kept` meets its contract.
 use Rattle.std.proofs.Common.{sym, ◌∙◌}
-use Rattle.messages.specs.Laws.{accepted as messages_accepted}
-use Rattle.dissemination.specs.Laws.{kept_refused, kept_done}
+use Rattle.messages.proofs.Laws.{accepted as messages_accepted}
+use Rattle.dissemination.proofs.Laws.{kept_refused, kept_done}
 use Rattle.dissemination.proofs.points.kept.Goals as goal
 
 pub returns-then-why-ne0 : goal.returns-then-why-ne0

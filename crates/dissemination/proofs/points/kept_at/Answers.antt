@@ -1,7 +1,8 @@
 -- `points::kept_at` meets its contract.
 use Rattle.std.proofs.Common.{ap, ◌∙◌, ℕ}
 use Rattle.dissemination.specs.Dissemination.{kept_point}
-use Rattle.dissemination.specs.Laws.{heard_of, kept_from_lem, kept_past}
+use Rattle.dissemination.specs.Laws.{heard_of}
+use Rattle.dissemination.proofs.Laws.{kept_from_lem, kept_past}
 use Rattle.dissemination.proofs.points.kept_at.Goals as goal
 
 pub returns-then-b-k : goal.returns-then-b-k

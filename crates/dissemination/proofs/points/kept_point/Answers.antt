@@ -1,8 +1,8 @@
 -- `points::kept_point` meets its contract.
 use Rattle.std.proofs.Common.{refl, ◌∙◌, arith, get_or}
-use Rattle.sizes.specs.Laws.{faults_le}
+use Rattle.sizes.proofs.Laws.{faults_le}
 use Rattle.messages.specs.Messages.{from}
-use Rattle.dissemination.specs.Kept.{weight_le, better_is, placed_at, weight_placed, best_none, best_more, best_done, settled}
+use Rattle.dissemination.proofs.Kept.{weight_le, better_is, placed_at, weight_placed, best_none, best_more, best_done, settled}
 use Rattle.dissemination.proofs.points.kept_point.Goals as goal
 
 pub gather-requires : goal.gather-requires

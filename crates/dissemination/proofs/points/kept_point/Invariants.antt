@@ -1,6 +1,6 @@
 -- `points::kept_point` meets its contract.
 use Rattle.dissemination.specs.Laws.{heard_of}
-use Rattle.dissemination.specs.Kept.{Best}
+use Rattle.dissemination.proofs.Kept.{Best}
 use Rattle.dissemination.proofs.points.kept_point.Given as goal
 
 abbrev pub invariant-loop-i : goal.invariant-loop-i

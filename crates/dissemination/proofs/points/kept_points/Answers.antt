@@ -1,11 +1,11 @@
 -- `points::kept_points` meets its contract.
 use Rattle.std.proofs.Common.{ap, arith, ◌∙◌, List, ℕ}
 use Rattle.lists.specs.Loops.{filled_none, filled_more, filled_done}
-use Rattle.sizes.specs.Laws.{blocks_le, accepted, few_blocks}
+use Rattle.sizes.proofs.Laws.{blocks_le, accepted, few_blocks}
 use Rattle.messages.specs.Messages.{said}
 use Rattle.codeword.specs.declared.ValuesAt.{ValuesAt}
 use Rattle.codeword.specs.Words.{values_there}
-use Rattle.dissemination.specs.Laws.{said_own, kept_are}
+use Rattle.dissemination.proofs.Laws.{said_own, kept_are}
 use Rattle.dissemination.proofs.points.kept_points.Goals as goal
 
 pub overflow_cast-b : goal.overflow_cast-b

@@ -1,9 +1,9 @@
 -- `points::send` meets its contract.
 use Rattle.std.proofs.Common.{sym, ap, ◌∙◌, Bool, List, ℕ, length}
 use Rattle.messages.specs.Messages.{unless_refused}
-use Rattle.messages.specs.Laws.{if_refused, if_done, accepted as messages_accepted}
+use Rattle.messages.proofs.Laws.{if_refused, if_done, accepted as messages_accepted}
 use Rattle.dissemination.specs.Dissemination.{points_to_all, round_refusal}
-use Rattle.dissemination.specs.Laws.{points_none}
+use Rattle.dissemination.proofs.Laws.{points_none}
 use Rattle.dissemination.proofs.points.send.Goals as goal
 
 pub returns-then-not-speaks : goal.returns-then-not-speaks

@@ -2,9 +2,9 @@
 use Rattle.std.proofs.Common.{refl, replicate, ◌∙◌, arith}
 use Rattle.lists.specs.Loops.{rowed_none, rowed_fits, rowed_more, rowed_room, rowed_done}
 use Rattle.field.specs.Field.{blank}
-use Rattle.sizes.specs.Laws.{blocks_le, accepted, few_blocks, column_of_lem}
+use Rattle.sizes.proofs.Laws.{blocks_le, accepted, few_blocks, column_of_lem}
 use Rattle.codeword.specs.Words.{codewords_in, length_codewords}
-use Rattle.dissemination.specs.Laws.{across_row, points_are}
+use Rattle.dissemination.proofs.Laws.{across_row, points_are}
 use Rattle.dissemination.proofs.points.send_all.Goals as goal
 
 pub overflow_cast-b : goal.overflow_cast-b

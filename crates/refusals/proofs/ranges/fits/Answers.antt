@@ -2,7 +2,7 @@
 use Rattle.std.proofs.Common.{sym, eqb→eq, ◌∙◌, T, eqb}
 use Rattle.lists.specs.Tests.{conj, passes}
 use Rattle.sizes.specs.Sizes.{refusal}
-use Rattle.sizes.specs.Laws.{accepted}
+use Rattle.sizes.proofs.Laws.{accepted}
 use Rattle.agreement.specs.Column.{names_fit, numbers_fit, fits}
 use Rattle.refusals.proofs.ranges.fits.Goals as goal
 

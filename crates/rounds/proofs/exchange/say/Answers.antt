@@ -1,6 +1,6 @@
 -- `exchange::say` meets its contract.
 use Rattle.std.proofs.Common.{◌∙◌}
-use Rattle.messages.specs.Laws.{if_done}
+use Rattle.messages.proofs.Laws.{if_done}
 use Rattle.dispersal.specs.Dispersal.{exchanges}
 use Rattle.agreement.specs.Rounds.{message}
 use Rattle.rounds.specs.Rounds.{to_columns}

@@ -1,6 +1,6 @@
 -- `post::say` meets its contract.
 use Rattle.std.proofs.Common.{◌∙◌}
-use Rattle.messages.specs.Laws.{if_done}
+use Rattle.messages.proofs.Laws.{if_done}
 use Rattle.rounds.specs.Ready.{post_accepted, post_to_all}
 use Rattle.rounds.proofs.post.say.Goals as goal
 

@@ -1,6 +1,6 @@
 -- `spreading::hear_points` meets its contract.
 use Rattle.std.proofs.Common.{refl}
-use Rattle.dissemination.specs.Laws.{kept_points_lem}
+use Rattle.dissemination.proofs.Laws.{kept_points_lem}
 use Rattle.protocols.specs.declared.Kind.TheVariants.{Points}
 use Rattle.protocols.specs.Protocols.{width}
 use Rattle.agreement.specs.Rounds.{hears}

@@ -1,7 +1,7 @@
 -- `spreading::say_kept` meets its contract.
 use Rattle.std.proofs.Common.{refl, ◌∙◌}
 use Rattle.messages.specs.Messages.{to_all}
-use Rattle.messages.specs.Laws.{if_done}
+use Rattle.messages.proofs.Laws.{if_done}
 use Rattle.protocols.specs.declared.Kind.TheVariants.{KeptPoints}
 use Rattle.protocols.specs.Protocols.{width}
 use Rattle.agreement.specs.Rounds.{message}

@@ -1,6 +1,6 @@
 -- `spreading::say_points` meets its contract.
 use Rattle.std.proofs.Common.{refl, ◌∙◌}
-use Rattle.messages.specs.Laws.{if_done}
+use Rattle.messages.proofs.Laws.{if_done}
 use Rattle.dissemination.specs.Dissemination.{points_to_all}
 use Rattle.protocols.specs.declared.Kind.TheVariants.{Points}
 use Rattle.protocols.specs.Protocols.{width}

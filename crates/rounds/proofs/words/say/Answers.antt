@@ -1,6 +1,6 @@
 -- `words::say` meets its contract.
 use Rattle.std.proofs.Common.{◌∙◌}
-use Rattle.messages.specs.Laws.{if_done}
+use Rattle.messages.proofs.Laws.{if_done}
 use Rattle.rounds.proofs.words.say.Goals as goal
 
 pub returns : goal.returns

@@ -1,8 +1,8 @@
 -- `entries::put` meets its contract.
 use Rattle.std.proofs.Common.{◌≡◌, ◌∙◌, sym, arith, rules, length}
-use Rattle.messages.specs.Laws.{put_fits, not_put}
+use Rattle.messages.proofs.Laws.{put_fits, not_put}
 use Rattle.state_bytes.specs.Entry.{entry_bytes}
-use Rattle.state_bytes.specs.Inverse.{entry_long}
+use Rattle.state_bytes.proofs.Inverse.{entry_long}
 use Rattle.state_bytes.proofs.entries.put.Goals as goal
 
 pub returns-then-part-lt-SIZE : goal.returns-then-part-lt-SIZE

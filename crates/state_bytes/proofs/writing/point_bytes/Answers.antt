@@ -2,7 +2,7 @@
 use Rattle.std.proofs.Common.{◌≡◌, ◌∙◌, ap, arith, ◌+◌, ◌*◌}
 use Rattle.lists.specs.Loops.{filled_none, filled_more, filled_done}
 use Rattle.state_bytes.specs.Layout.{point_byte}
-use Rattle.state_bytes.specs.Inverse.{half_byte}
+use Rattle.state_bytes.proofs.Inverse.{half_byte}
 use Rattle.state_bytes.proofs.writing.point_bytes.Goals as goal
 
 pub loop-i-init : goal.loop-i-init

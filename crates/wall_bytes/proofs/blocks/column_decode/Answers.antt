@@ -1,7 +1,7 @@
 -- `blocks::column_decode` meets its contract.
 use Rattle.std.proofs.Common.{rules, sym, ap, arith, le-leb, ◌∙◌, ℕ, length}
 use Rattle.messages.specs.Messages.{refusal}
-use Rattle.messages.specs.Laws.{if_refused, if_done, accepted}
+use Rattle.messages.proofs.Laws.{if_refused, if_done, accepted}
 use Rattle.decoder.specs.Decoder.{decoded, refusal_of}
 use Rattle.wall_bytes.specs.Calls.{coefficients_of, block_answer, block_out}
 use Rattle.wall_bytes.specs.Laws.{written_whole}

@@ -1,6 +1,6 @@
 -- `rows::run` meets its contract.
 use Rattle.std.proofs.Common.{sym, ap, arith, ◌∙◌}
-use Rattle.messages.specs.Laws.{if_refused, if_done}
+use Rattle.messages.proofs.Laws.{if_refused, if_done}
 use Rattle.wall_run.specs.Run.{outcomes}
 use Rattle.wall_bytes.specs.Calls.{row_bytes, wall_row}
 use Rattle.wall_bytes.specs.Laws.{entered_none, entered_same, entered_more, entered_done, wall_refusal, ran}

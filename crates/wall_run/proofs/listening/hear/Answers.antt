@@ -1,7 +1,7 @@
 -- `listening::hear` meets its contract.
 use Rattle.std.proofs.Common.{refl, List, ℕ, sym, ap, arith, ◌∙◌}
 use Rattle.wall_run.specs.Run.{heard}
-use Rattle.messages.specs.Laws.{if_done}
+use Rattle.messages.proofs.Laws.{if_done}
 use Rattle.agreement.specs.declared.Answered.{Answered}
 use Rattle.agreement.specs.Calls.{listen}
 use Rattle.delivery.specs.Refusals.{delivers}

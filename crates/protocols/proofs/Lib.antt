@@ -1,0 +1,2 @@
+-- Laws: what upper floors use of the protocols.
+pub mod Laws

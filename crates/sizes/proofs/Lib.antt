@@ -1,0 +1,2 @@
+-- Laws: what upper floors use of the sizes.
+pub mod Laws

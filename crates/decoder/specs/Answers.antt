@@ -1,32 +1,12 @@
 -- Why each answer that the code gives is the definition's.
-use Rattle.std.specs.Prelude.{◌≡◌, refl, Bool, not, ◌&&◌, ℕ, suc, ◌+◌, ◌-◌, ◌*◌, ◌≤◌, ◌<◌, eqb, ltb, leb, length, get_or}
-use Rattle.std.proofs.Math.Path.{sym, ap}
-use Rattle.std.proofs.Common.{◌∙◌, mul_comm, mul-zero, lt→ltb, le→leb}
-use mathlib.Core.List.{List, [], ◌∷◌, map}
-use Rattle.std.proofs.Math.Nat.{mod-eq_of_lt}
-use Rattle.std.proofs.Math.Decide.{dec_le}
-use native.Mathlib.Omega.{arith}
-use Rattle.std.proofs.Math.Dec.{T, T_not, eqb→eq, ltb→lt}
-use Rattle.std.proofs.lemmas.List.{length-map}
-use Rattle.lists.specs.Lists.{count}
-use Rattle.lists.specs.Tests.{and_left, and_right, and_both, eq→eqb}
-use Rattle.lists.specs.Count.{mono, cover, longer, count_same}
-use Rattle.field.specs.Field.{of}
-use Rattle.field.specs.Congruence.{◌≋◌}
-use Rattle.field.specs.Laws.{cancel}
-use Rattle.block.specs.Block.{value, meet}
-use Rattle.block.proofs.Values.{value_lt}
-use Rattle.block.proofs.Algebra.{product, value_product, length_product, same_values}
+use Rattle.std.specs.Prelude.{◌≡◌, ℕ, ◌+◌, length}
+use mathlib.Core.List.{List, map}
 use Rattle.sizes.specs.Sizes.{faults, degree}
-use Rattle.locator.specs.Locator.{located}
-use Rattle.locator.specs.Located.{Locates, present, locates}
-use Rattle.messages.specs.Messages.{said, from as at}
-use Rattle.decoder.specs.Decoder.{meets_at, hits, IsAnswer, through, coefficients, decoded, four}
-use Rattle.decoder.specs.Interpolation.{Rising, On, map_on, through_on, through_length, through_below}
+use Rattle.messages.specs.Messages.{from as at}
+use Rattle.decoder.specs.Decoder.{through, coefficients}
 use Rattle.decoder.specs.Exactly.{Accepts}
-use Rattle.decoder.specs.Places.{present_at, usable, Chain, Chosen, chain_chosen}
+use Rattle.decoder.specs.Places.{usable, Chain}
 use Rattle.decoder.specs.declared.Coefficients.{Coefficients}
-use Rattle.decoder.specs.declared.Decoded.TheVariants.{Polynomial, Nothing}
 
 -- c is the polynomial through the points at k places
 pub record Through (points xs : List ℕ) (k : ℕ) (c : Coefficients) : Type 0 where

@@ -1,23 +1,11 @@
 -- What is sent and heard on the way of the code, as definitions.
-use Rattle.std.specs.Prelude.{◌≡◌, Bool, true, false, List, ◌++◌, eqb, ltb, length, get_or, take, drop, replicate}
-use Rattle.std.proofs.Math.Path.{refl, ap}
-use Rattle.std.proofs.Common.{sym, ◌∙◌, arith, ext_get_or, get_or-take, length-take-le}
+use Rattle.std.specs.Prelude.{Bool, List, eqb, ltb, get_or, replicate}
 use Rattle.std.proofs.Math.Bool.{cond}
-use Rattle.std.proofs.Math.Option.{Option, none, some}
-use Prim.Native.Nat.{ℕ, zero, suc, ◌+◌, ◌-◌, ◌*◌, ◌≤◌, ◌<◌}
-use borrow.Author.Tests.{lt-ltb, le-ltb, ne_eqb}
-use Rattle.lists.specs.Lists.{all, list_of, rows_of}
-use Rattle.lists.specs.Entries.{length_list_of, get_d_list_of, get_d_within, list_of_same}
-use Rattle.lists.specs.Rows.{row_fits, rows_of_same}
+use Prim.Native.Nat.{ℕ, ◌+◌, ◌-◌, ◌*◌}
 use Rattle.field.specs.Field.{blank}
-use Rattle.sizes.specs.Sizes.{blocks, refusal}
-use Rattle.sizes.proofs.Laws.{accepted, few_blocks}
-use Rattle.messages.specs.Messages.{read_point, said, from, to_all, laid, heard, heard_of_all}
-use Rattle.messages.proofs.Laws.{said_laid, from_place, from_heard, heard_same}
-use Rattle.codeword.specs.Codeword.{values, codewords, across, written_across}
-use Rattle.codeword.specs.Apart.{length_values}
-use Rattle.codeword.specs.Words.{across_is, across_written}
-use Rattle.dissemination.specs.Dissemination.{spoken, points_in, point_at, points, points_to_all, kept_point, kept_at, kept_points, is_block, byte_at, record_of, round_refusal, kept}
+use Rattle.messages.specs.Messages.{read_point, said}
+use Rattle.codeword.specs.Codeword.{values}
+use Rattle.dissemination.specs.Dissemination.{points_in, kept_point}
 
 -- SPEAKING OR NOT
 

@@ -13,7 +13,7 @@ use Rattle.sizes.specs.Sizes.{faults}
 use Rattle.messages.specs.Messages.{times}
 use Rattle.messages.specs.Wall.{Wall, Sound}
 use Rattle.messages.proofs.Quorums.{faults_few, heard_most, heard_least, unheard, same_heard}
-use Rattle.king.specs.King.{bits, proposal, settled, firm, word, crowned}
+use Rattle.king.specs.King.{bits, proposal, settled, firm}
 use Rattle.king.proofs.Laws.{bits_same, bits_is, bits_only, chosen_is, chosen_only, settled_bit, word_king, crowned_is, crowned_firm, crowned_bit}
 use Rattle.king.specs.Phase.{Phase}
 

@@ -1,18 +1,8 @@
 -- One phase of the king rule, and all of them: what sound columns do in them, as statements.
-use Rattle.std.specs.Prelude.{◌≡◌, refl, Bool, not, ◌&&◌, [], ◌∷◌, T}
-use Rattle.std.proofs.Common.{sym, ◌∙◌, leb→le, le→leb, eqb→eq}
-use Prim.Native.Nat.{ℕ, suc, ◌+◌, ◌-◌, ◌≤◌, ◌<◌}
-use native.Mathlib.Omega.{arith}
-use Rattle.std.proofs.Math.Dec.{eqb, not_T}
-use Rattle.lists.specs.Lists.{count}
-use Rattle.lists.specs.Tests.{conj}
-use Rattle.lists.specs.Count.{count_not, law_if, find, Found}
-use Rattle.field.specs.Field.{blank}
-use Rattle.sizes.specs.Sizes.{faults}
-use Rattle.messages.specs.Messages.{times}
-use Rattle.messages.specs.Wall.{Wall, Sound}
-use Rattle.messages.proofs.Quorums.{faults_few, heard_most, heard_least, unheard, same_heard}
-use Rattle.king.specs.King.{bits, proposal, settled, firm, word, crowned, phases}
+use Rattle.std.specs.Prelude.{◌≡◌, Bool}
+use Prim.Native.Nat.{ℕ, suc, ◌<◌}
+use Rattle.messages.specs.Wall.{Sound}
+use Rattle.king.specs.King.{proposal, settled, firm, word, crowned, phases}
 
 -- What sound columns do in a phase, from the votes v to the votes v': `votes i j` is what i received from j, and so on. Of what unsound
 -- columns send nothing is said.

@@ -8,7 +8,7 @@
  *
  * Stack. As in column.h, the most that a call takes, in bytes:
  *
- *     column_wall   90112    posting_wall  90112    column_decode  2048
+ *     column_wall  110592    posting_wall 110592    column_decode  2560
  */
 #ifndef WALL_H
 #define WALL_H

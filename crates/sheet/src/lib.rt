@@ -112,6 +112,7 @@ fn marks_fit(sheet: &[u8], n: u8) -> bool
 }
 
 // 5 where a mark does not fit, then 6 where not few are unsound, then 4 where the sheet is not whole; 0 for none.
+#[tactic(auto, unfolding(crate::specs::Sheet::in_order))]
 fn in_order(fit: bool, few: bool, full: bool) -> u8
     ensures { result ≡ in_order fit few full }
 {

@@ -7,8 +7,8 @@ use Rattle.agreement.specs.declared.Column.{Column}
 use Rattle.agreement.specs.Column.{stage_fits, fits}
 use Rattle.agreement.specs.declared.Outcome.TheVariants.{Nothing, Record}
 use Rattle.agreement.specs.declared.Stage.TheVariants as S
-use Rattle.agreement.specs.declared.Reply.{Reply}
-use Rattle.agreement.specs.declared.Reply.TheVariants.{Ended, Refused}
+use Rattle.agreement.specs.Replies.{Reply}
+use Rattle.agreement.specs.Replies.{Ended, Refused}
 use Rattle.agreement.specs.Parts.{with_bytes}
 use Rattle.agreement.specs.Rounds.{ends_on}
 use Rattle.agreement.proofs.Ranges.{with_stage_lem, with_bytes_lem, bytes_fit}

@@ -13,7 +13,7 @@ use Rattle.messages.proofs.Laws.{not_refused, if_refused, if_done}
 use Rattle.agreement.specs.declared.Stage.{Stage}
 use Rattle.agreement.specs.declared.Stage.TheVariants.{Speak, Listen}
 use Rattle.agreement.specs.declared.Column.{Column}
-use Rattle.agreement.specs.declared.Answer.TheVariants.{Done, Refused}
+use Rattle.agreement.specs.Answers.{Done, Refused}
 use Rattle.agreement.specs.Column.{fresh_column, names_fit, numbers_fit, fits}
 use Rattle.agreement.specs.Parts.{with_stage}
 use Rattle.agreement.specs.Rounds.{outgoing, listens}

@@ -12,12 +12,12 @@ use Rattle.agreement.specs.declared.Outcome.TheVariants.{Nothing, Record}
 use Rattle.agreement.specs.declared.Stage.{Stage}
 use Rattle.agreement.specs.declared.Stage.TheVariants.{Speak, Listen, Ended}
 use Rattle.agreement.specs.declared.Column.{Column}
-use Rattle.agreement.specs.declared.Answer.{Answer}
-use Rattle.agreement.specs.declared.Answer.TheVariants.{Done, Refused}
-use Rattle.agreement.specs.declared.Answered.{Answered}
-use Rattle.agreement.specs.declared.Reply.{Reply}
-use Rattle.agreement.specs.declared.Reply.TheVariants as R
-use Rattle.agreement.specs.declared.Replied.{Replied}
+use Rattle.agreement.specs.Answers.{Answer}
+use Rattle.agreement.specs.Answers.{Done, Refused}
+use Rattle.agreement.specs.Answers.{Answered}
+use Rattle.agreement.specs.Replies.{Reply}
+use Rattle.agreement.specs.Replies as R
+use Rattle.agreement.specs.Replies.{Replied}
 use Rattle.agreement.specs.Column.{fresh_column, fits}
 use Rattle.agreement.specs.Parts.{with_stage}
 use Rattle.agreement.specs.Rounds.{outgoing, listens}

@@ -3,12 +3,12 @@
 use Rattle.std.specs.Prelude.{Bool, true, false, cond, List, ℕ, eqb, take, replicate}
 use Rattle.std.proofs.Math.Option.{Option, none, some}
 use Rattle.agreement.specs.declared.Outcome.TheVariants.{Nothing, Record}
-use Rattle.agreement.specs.declared.Reply.{Reply}
-use Rattle.agreement.specs.declared.Reply.TheVariants.{Ended, Refused}
-use Rattle.agreement.specs.declared.Replied.{Replied}
+use Rattle.agreement.specs.Replies.{Reply}
+use Rattle.agreement.specs.Replies.{Ended, Refused}
+use Rattle.agreement.specs.Replies.{Replied}
 use Rattle.agreement.specs.declared.Column.{Column}
 use Rattle.agreement.specs.declared.Entry.{Entry}
-use Rattle.agreement.specs.declared.Told.{Told}
+use Rattle.agreement.specs.Replies.{Told}
 use Rattle.agreement.specs.Calls.{outcome_refusal, outcome}
 
 unfoldable pub ends_on_record : Reply → Bool

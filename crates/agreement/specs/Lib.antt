@@ -4,6 +4,8 @@
 --   Column        the state, fresh, and the ranges of its parts
 --   Post          the record that a column takes from a poster
 --   Rounds        what a column says in each round, and what it makes of what it hears
+--   Answers       what a call to make a column, to speak or to listen comes to
+--   Replies       what a call for the outcome comes to
 --   Calls         the calls' answers, refused inputs included
 --   Entries       what a wall's entry shows of a column
 --   Machine       the calls as a machine: what a run of it is, and what is claimed of one, is defined in `machine`
@@ -11,6 +13,8 @@ pub mod Parts
 pub mod Column
 pub mod Post
 pub mod Rounds
+pub mod Answers
+pub mod Replies
 pub mod Calls
 pub mod Entries
 pub mod Machine

@@ -39,37 +39,6 @@ pub struct Column {
     pub kept: [u16; 32],
 }
 
-// What a call to make a column, to speak or to listen answers: done, or document 01's number of the refusal.
-#[derive(Clone, Copy)]
-pub enum Answer {
-    Done,
-    Refused(u8),
-}
-
-// The answer, and the state after the call: as it came, where the call was refused.
-#[derive(Clone, Copy)]
-pub struct Answered {
-    pub answer: Answer,
-    pub column: Column,
-}
-
-// What a call for the outcome answers.
-#[derive(Clone, Copy)]
-pub enum Reply {
-    Ended(Outcome),
-    Refused(u8),
-}
-
-// The reply; the grade that goes with it, in an agreement the one with which the column left dispersal; the record's bytes, zeros past m and
-// where there is no record; and the state as it came.
-#[derive(Clone, Copy)]
-pub struct Replied {
-    pub reply: Reply,
-    pub grade: u8,
-    pub bytes: [u8; 32],
-    pub column: Column,
-}
-
 // What one column of a wall came to: its mark, the grade of its outcome, its last vote, whether it ended on a record, and the record's bytes,
 // zeros past m and where there is none. The entry of an unsound column is its mark and zeros.
 #[repr(C)]
@@ -80,11 +49,4 @@ pub struct Entry {
     pub vote: u8,
     pub has_record: bool,
     pub bytes: [u8; 32],
-}
-
-// What a column tells that is asked for its entry: the number of the refusal, 0 for none, and the entry, a mark 0 and zeros where it is refused.
-#[derive(Clone, Copy)]
-pub struct Told {
-    pub refusal: u8,
-    pub entry: Entry,
 }

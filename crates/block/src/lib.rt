@@ -14,14 +14,12 @@ use field::Field;
 fn coefficient(c: &[u16], i: usize) -> Field
     ensures { result ≡ element (of (get_or c.now i 0)) }
 {
-    if i < c.len() {
-        return Field::of(c[i]);
-    }
-    Field(0)
+    Field::of(c.get(i).copied().unwrap_or(0))
 }
 
 // The value at x of a polynomial that has the first `count` coefficients in front of a rest, where the rest has the value `rest`: the last of them
-// plus x times `rest` is the value of a longer rest, with one coefficient less in front of it.
+// plus x times `rest` is the value of a longer rest, with one coefficient less in front of it. By recursion: a fold is a twentieth slower.
+#[tactic(auto, using(crate::proofs::Values::behind_none, crate::proofs::Values::behind_more))]
 fn behind(c: &[u16; 4], count: u8, x: u16, rest: u16) -> u16
     ensures { result ≡ behind_of (part c.now 0 count) x rest }
 {
@@ -34,6 +32,7 @@ fn behind(c: &[u16; 4], count: u8, x: u16, rest: u16) -> u16
 }
 
 // The value at x of the polynomial of the first `count` coefficients.
+#[tactic(auto, using(crate::proofs::Values::behind_zero))]
 pub fn value(c: &[u16; 4], count: u8, x: Field) -> Field
     ensures { result ≡ element (value_of (part c.now 0 count) x.0) }
 {
@@ -45,8 +44,8 @@ pub fn word(c: &[u16; 4], count: u8) -> [u16; 32]
     ensures { result ≡ list_of (word_at (part c.now 0 count)) 32 }
 {
     let mut values = [0u16; 32];
-    for i in 0..32 {
-        values[i] = behind(c, count, i as u16 + 1, 0);
+    for (i, v) in values.iter_mut().enumerate() {
+        *v = behind(c, count, i as u16 + 1, 0);
     }
     values
 }

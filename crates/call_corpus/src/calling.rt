@@ -11,10 +11,6 @@ pub(super) struct Numbers {
     pub(super) poster: u32,
 }
 
-fn wide(answer: u8) -> usize {
-    answer as usize
-}
-
 // Makes the call and answers its number; 255 for a kind that is no call.
 pub(super) fn call(
     kind: u8,
@@ -27,14 +23,14 @@ pub(super) fn call(
     match kind {
         0 => columns::column_rounds(x.poster, x.n),
         1 => columns::column_values(x.poster, x.n, x.m, x.which),
-        2 => wide(columns::column_fresh(x.n, x.m, x.which, a, b)),
-        3 => wide(columns::posting_fresh(x.n, x.m, x.which, x.poster, a, b)),
-        4 => wide(columns::column_speak(b, v)),
-        5 => wide(columns::column_listen(b, v)),
-        6 => wide(columns::column_outcome(a, b)),
-        7 => wide(walls::column_wall(a, b)),
-        8 => wide(walls::posting_wall(x.poster, a, b)),
-        9 => wide(blocks::column_decode(x.n, v, w)),
+        2 => usize::from(columns::column_fresh(x.n, x.m, x.which, a, b)),
+        3 => usize::from(columns::posting_fresh(x.n, x.m, x.which, x.poster, a, b)),
+        4 => usize::from(columns::column_speak(b, v)),
+        5 => usize::from(columns::column_listen(b, v)),
+        6 => usize::from(columns::column_outcome(a, b)),
+        7 => usize::from(walls::column_wall(a, b)),
+        8 => usize::from(walls::posting_wall(x.poster, a, b)),
+        9 => usize::from(blocks::column_decode(x.n, v, w)),
         _ => 255,
     }
 }

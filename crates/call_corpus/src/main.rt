@@ -21,10 +21,10 @@ fn play<R: Read, W: Write>(
     input: &mut R,
     output: &mut W,
 ) -> io::Result<()> {
-    let a_len = reading::byte_count(header, 17, a);
-    let b_len = reading::byte_count(header, 19, b);
-    let v_len = reading::value_count(header, 21, v);
-    let w_len = reading::value_count(header, 23, w);
+    let a_len = reading::count(header, 17, a);
+    let b_len = reading::count(header, 19, b);
+    let v_len = reading::count(header, 21, v);
+    let w_len = reading::count(header, 23, w);
     answer(
         header,
         &mut a[..a_len],

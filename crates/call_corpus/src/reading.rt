@@ -2,64 +2,48 @@
 ghost use Rattle.std.specs.Prelude.{◌≡◌, ◌≤◌, length, take};
 
 use crate::calling::Numbers;
-use std::io;
 use std::io::Read;
+use std::{array, io};
 
 // Fills the slice, as far as the input goes.
 pub(super) fn bytes<R: Read>(input: &mut R, room: &mut [u8]) -> io::Result<usize> {
     streams::fill(input, room)
 }
 
-fn least(x: usize, y: usize) -> usize
-    ensures { (result ≤ x) × (result ≤ y) }
-{
-    if x < y {
-        return x;
-    }
-    y
-}
-
-// How many bytes a slice is to have: what stands at a place of the header, at most what there is room for.
-pub(super) fn byte_count(header: &[u8], at: usize, room: &[u8]) -> usize
+// How many entries a slice is to have: what stands at a place of the header, at most what there is room for.
+pub(super) fn count<T>(header: &[u8], at: usize, room: &[T]) -> usize
     ensures within { result ≤ length room.now }
     ensures long { result ≡ length (take result room.now) }
 {
-    least(messages::word(header, at) as usize, room.len())
+    room.len().min(messages::word(header, at) as usize)
 }
 
-// The same for a slice of values.
-pub(super) fn value_count(header: &[u8], at: usize, room: &[u16]) -> usize
-    ensures within { result ≤ length room.now }
-    ensures long { result ≡ length (take result room.now) }
+// The number that stands in four bytes of the header.
+fn number(header: &[u8], at: usize) -> u32
+    requires { at ≤ 65535 }
 {
-    least(messages::word(header, at) as usize, room.len())
-}
-
-// The number whose two halves these are.
-fn joined(low: u16, high: u16) -> u32 {
-    low as u32 + 65536 * (high as u32)
+    u32::from_le_bytes(array::from_fn(|i| messages::byte(header, at + i)))
 }
 
 pub(super) fn numbers(header: &[u8]) -> Numbers {
     Numbers {
-        n: joined(messages::word(header, 1), messages::word(header, 3)),
-        m: joined(messages::word(header, 5), messages::word(header, 7)),
-        which: joined(messages::word(header, 9), messages::word(header, 11)),
-        poster: joined(messages::word(header, 13), messages::word(header, 15)),
+        n: number(header, 1),
+        m: number(header, 5),
+        which: number(header, 9),
+        poster: number(header, 13),
     }
 }
 
 // The values that lie in bytes, as many as there are bytes and room for.
 fn unpack(bytes: &[u8], values: &mut [u16]) {
-    let all = least(bytes.len() / 2, values.len());
-    for i in 0..all {
-        values[i] = messages::word(bytes, 2 * i);
+    for (value, pair) in values.iter_mut().zip(bytes.chunks_exact(2)) {
+        *value = messages::word(pair, 0);
     }
 }
 
 // Fills a slice of values by way of bytes, two for each.
 fn fill<R: Read>(input: &mut R, bytes: &mut [u8], room: &mut [u16]) -> io::Result<()> {
-    let len = least(2 * least(room.len(), 2048), bytes.len());
+    let len = bytes.len().min(2 * room.len().min(2048));
     streams::fill(input, &mut bytes[..len])?;
     unpack(bytes, room);
     Ok(())

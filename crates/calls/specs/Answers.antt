@@ -1,70 +1,77 @@
 -- The answers of the calls, refused or not, and what is known where a call is not refused.
 use Rattle.std.proofs.Math.Path.{◌≡◌, refl, sym, ap}
-use Rattle.std.specs.Prelude.{Bool, not, List, ℕ, ◌+◌, ◌≤◌, length, replicate}
+use Rattle.std.specs.Prelude.{Bool, not, List, ℕ, ◌+◌, ◌≤◌, length, Result, Ok, Err, Option, Some, None}
+use Rattle.std.specs.Result.{IsErrAnd}
 use Rattle.std.proofs.Math.Bool.{true, false, cond}
-use Rattle.std.proofs.Common.{arith}
-use borrow.Author.Tests.{eq-eqb, ne_eqb, eqb-true, not-true}
+use Rattle.std.proofs.Common.{◌∙◌, arith}
+use borrow.Author.Tests.{ne_eqb, eqb-true, not-true}
 use Rattle.std.proofs.Math.Dec.{T, eqb, eqb→eq}
 use Rattle.lists.specs.Tests.{and_left, and_right, is_true, passes}
 use Rattle.protocols.specs.declared.Protocol.{Protocol}
 use Rattle.protocols.specs.declared.Kind.{Kind}
 use Rattle.sizes.specs.Sizes.{outside, refusal}
+use Rattle.sizes.specs.declared.numbers.Refusal.{Refusal}
+use Rattle.sizes.specs.Refusals.{number, number_in}
 use Rattle.sizes.proofs.Laws.{inside, accepted}
+use Rattle.sizes.proofs.Refusals.{some, handed_on}
 use Rattle.protocols.specs.Protocols.{rounds_in, values_in, kind_in, width}
 use Rattle.protocols.proofs.Laws.{rounds_in_le, values_are}
 use Rattle.messages.specs.Messages.{unless_refused}
 use Rattle.messages.proofs.Laws.{refused_before, if_refused}
-use Rattle.agreement.specs.declared.Outcome.{Outcome}
 use Rattle.agreement.specs.declared.Stage.{Stage}
 use Rattle.agreement.specs.declared.Stage.TheVariants.{Speak, Listen, Ended}
 use Rattle.agreement.specs.declared.Column.{Column}
-use Rattle.agreement.specs.declared.Reply.TheVariants as R
-use Rattle.agreement.specs.declared.Replied.{Replied}
-use Rattle.agreement.specs.declared.Told.{Told}
+use Rattle.agreement.specs.Answers.{answered_in}
+use Rattle.agreement.specs.Replies as R
+use Rattle.agreement.specs.Replies.{reply_in, bytes_in}
 use Rattle.agreement.specs.Column.{stage_fits, names_fit, numbers_fit, fits}
 use Rattle.agreement.specs.Parts.{with_stage}
 use Rattle.agreement.specs.Rounds.{outgoing, listens}
-use Rattle.agreement.specs.Calls.{answered, round_of, when_speaking, when_listening, in_state, in_round, speak_refusal, speak, written, listen_refusal, listen, outcome_refusal, ending, reply_of, shown, grade_shown, outcome}
-use Rattle.agreement.specs.Entries.{mark_only, sound_entry, told}
+use Rattle.agreement.specs.Calls.{answered, round_of, when_speaking, when_listening, in_state, in_round, speak_refusal, speak, written, listen_refusal, listen, outcome_refusal, ending, reply_of, shown, grade_shown, outcome, refusal_in}
+use Rattle.agreement.specs.Entries.{entry_asked, sound_entry}
 use Rattle.rounds.specs.Rounds.{to_columns, round_refusal, heard_in}
+use Rattle.rounds.specs.Ready.{answered_refused}
 
--- REFUSED OR NOT
+-- THE OUTCOME
 
--- what a refused call would have done plays no part
-pub refused_alike : (why : ℕ) (done other before : Column) → (why ≡ 0 → ⊥) → answered why done before ≡ answered why other before
-unfolding answered
-refused_alike why done other before h = rw (ne_eqb why 0 h) refl
+-- the number in a reply is that of the call's refusal
+number_of_reply : (r : Result (Option (List ℕ)) Refusal) → refusal_in (reply_in r) ≡ number_in r
+unfolding refusal_in
+number_of_reply (Ok None) = refl
+number_of_reply (Ok (Some bytes)) = refl
+number_of_reply (Err why) = refl
 
-module _ (c : Column) (r : ℕ) (e : r ≡ outcome_refusal c) where
-  pub replied_refused : (r ≡ 0 → ⊥) → (g : ℕ) → g ≡ grade_shown c.protocol c.grade (R.Refused r)
-      → ◌≡◌ {A = Replied} (record { reply = R.Refused r; grade = g; bytes = replicate 32 0; column = c }) (outcome c)
-  unfolding outcome reply_of shown
-  replied_refused h g f = rw (f, ← e, ne_eqb r 0 h) refl
-
-  pub replied_ended : r ≡ 0 → (o : Outcome) (g : ℕ) (b : List ℕ) → o ≡ ending c.stage → g ≡ grade_shown c.protocol c.grade (R.Ended o) → b ≡ shown (R.Ended o) c.bytes
-      → ◌≡◌ {A = Replied} (record { reply = R.Ended o; grade = g; bytes = b; column = c }) (outcome c)
-  unfolding outcome reply_of
-  replied_ended z o g b q k f = rw (f, k, q, ← e, eq-eqb r 0 z) refl
-
--- a column that is asked for its entry, by its reply
 module _ (c : Column) where
-  pub told_ended : (o : Outcome) → (outcome c).reply ≡ R.Ended o → ◌≡◌ {A = Told} (record { refusal = 0; entry = sound_entry c }) (told c)
-  unfolding outcome reply_of told
-  told_ended o = go (eqb (outcome_refusal c) 0) refl
+  refusal_of_reply : refusal_in (reply_of c) ≡ outcome_refusal c
+  unfolding reply_of refusal_in
+  refusal_of_reply = go (eqb (outcome_refusal c) 0) refl
     where
-      go : (b : Bool) → eqb (outcome_refusal c) 0 ≡ b → cond b (R.Ended (ending c.stage)) (R.Refused (outcome_refusal c)) ≡ R.Ended o
-          → ◌≡◌ {A = Told} (record { refusal = 0; entry = sound_entry c }) (record { refusal = outcome_refusal c; entry = cond b (sound_entry c) (mark_only 0) })
-      go true e h = ap {B = Told} (λ (why : ℕ). record { refusal = why; entry = sound_entry c }) (sym (eqb-true (outcome_refusal c) 0 e))
-      go false e h = let z : ◌≡◌ {A = ℕ} 0 1 = cc in absurd (omega arith)
+      go : (b : Bool) → eqb (outcome_refusal c) 0 ≡ b → refusal_in (cond b (R.Ended (ending c.stage)) (R.Refused (outcome_refusal c))) ≡ outcome_refusal c
+      go true e = sym (eqb-true (outcome_refusal c) 0 e)
+      go false e = refl
 
-  pub told_refused : (why : ℕ) → (outcome c).reply ≡ R.Refused why → ◌≡◌ {A = Told} (record { refusal = why; entry = mark_only 0 }) (told c)
-  unfolding outcome reply_of told
-  told_refused why = go (eqb (outcome_refusal c) 0) refl
-    where
-      go : (b : Bool) → eqb (outcome_refusal c) 0 ≡ b → cond b (R.Ended (ending c.stage)) (R.Refused (outcome_refusal c)) ≡ R.Refused why
-          → ◌≡◌ {A = Told} (record { refusal = why; entry = mark_only 0 }) (record { refusal = outcome_refusal c; entry = cond b (sound_entry c) (mark_only 0) })
-      go true e h = let z : ◌≡◌ {A = ℕ} 0 1 = cc in absurd (omega arith)
-      go false e h = let same : why ≡ outcome_refusal c = cc in ap {B = Told} (λ (q : ℕ). record { refusal = q; entry = mark_only 0 }) same
+  -- a call's answer is that to a call for the outcome
+  abbrev pub Asked : Result (Option (List ℕ)) Refusal → Type 0
+  Asked r = (reply_in r ≡ (outcome c).reply) × (bytes_in r ≡ (outcome c).bytes)
+
+  pub told_refused : (why : Refusal) (r : Result (Option (List ℕ)) Refusal) → IsErrAnd r (λ y. y ≡ why) → number why ≡ outcome_refusal c → Asked r
+  unfolding outcome reply_of shown
+  told_refused why r h e = rw (handed_on why r h, ← e, ne_eqb (number why) 0 (some why)) (refl, refl)
+
+  pub told_done : 0 ≡ outcome_refusal c → (o : Option (List ℕ)) → reply_in (Ok o) ≡ R.Ended (ending c.stage) → bytes_in (Ok o) ≡ shown (R.Ended (ending c.stage)) c.bytes
+      → Asked (Ok o)
+  unfolding outcome reply_of
+  told_done e o f g = rw (← e) (f, g)
+
+  -- its refusal is the call's, and the entry that is made of it the column's
+  pub told_number : (r : Result (Option (List ℕ)) Refusal) → Asked r → number_in r ≡ outcome_refusal c
+  unfolding outcome
+  told_number r t = sym (number_of_reply r) ∙ ap refusal_in t.0 ∙ refusal_of_reply
+
+  pub told_entry : (r : Result (Option (List ℕ)) Refusal) → Asked r
+      → entry_asked (record { reply = reply_in r; grade = grade_shown c.protocol c.grade (reply_in r); bytes = bytes_in r; column = c }) ≡ sound_entry c
+  unfolding outcome sound_entry
+  told_entry r t = rw (t.0, t.1) refl
 
 -- NOT REFUSED
 
@@ -141,27 +148,28 @@ module _ (c : Column) where
 
   -- THE ANSWERS TO SPEAK AND TO LISTEN, where the state is refused and where it is not
 
-  pub listen_refused : (inbox : List ℕ) (why : ℕ) → why ≡ in_state c (when_listening c.stage) → (why ≡ 0 → ⊥) → answered why c c ≡ listen c inbox
-  unfolding listen listen_refusal in_round
-  listen_refused inbox why e h =
-      rw (← e, refused_before why c.n (values_in p c.n c.m round) (length inbox) h) (refused_alike why c (listens round c inbox) c h)
+  module _ (why : Refusal) (r : Result Column Refusal) (h : IsErrAnd r (λ y. y ≡ why)) where
+    -- the refusal by the state stands, whatever the slice
+    before_slice : (w len : ℕ) → number why ≡ in_state c w → number why ≡ in_round c w len
+    unfolding in_round
+    before_slice w len e = e ∙ sym (refused_before (in_state c w) c.n (values_in c.protocol c.n c.m round) len (λ z. some why (e ∙ z)))
+
+    pub listen_refused : (inbox : List ℕ) → number why ≡ in_state c (when_listening c.stage) → answered_in r c ≡ listen c inbox
+    unfolding listen listen_refusal
+    listen_refused inbox e = answered_refused c why r h (before_slice (when_listening c.stage) (length inbox) e) (listens round c inbox)
+
+    pub speak_refused : (out : List ℕ) → number why ≡ in_state c (when_speaking c.stage) → (answered_in r c ≡ speak c out) × (out ≡ written c out)
+    unfolding speak speak_refusal written
+    speak_refused out e =
+        let f = before_slice (when_speaking c.stage) (length out) e in
+        (answered_refused c why r h f (with_stage (Listen round) c), sym (if_refused (in_round c (when_speaking c.stage) (length out)) (outgoing c round) out (λ z. some why (f ∙ z))))
 
   pub listen_heard : (inbox : List ℕ) → in_state c (when_listening c.stage) ≡ 0 → heard_in kind (Speak (round + 1)) c inbox ≡ listen c inbox
   unfolding listen listen_refusal heard_in listens
   listen_heard inbox e = rw ((may_listen e).by_length (length inbox)) refl
 
-  module _ (out : List ℕ) where
-    speak_refused : (why : ℕ) → why ≡ in_state c (when_speaking c.stage) → (why ≡ 0 → ⊥) → speak_refusal c (length out) ≡ why
-    unfolding speak_refusal in_round
-    speak_refused why e h = rw (← e) (refused_before why c.n (values_in p c.n c.m round) (length out) h)
-
-    pub speak_silent : (why : ℕ) → why ≡ in_state c (when_speaking c.stage) → (why ≡ 0 → ⊥) → (answered why c c ≡ speak c out) × (out ≡ written c out)
-    unfolding speak written
-    speak_silent why e h =
-        rw (speak_refused why e h) (refused_alike why c (with_stage (Listen round) c) c h, sym (if_refused why (outgoing c round) out h))
-
-    pub speak_said : in_state c (when_speaking c.stage) ≡ 0
-        → (answered (round_refusal kind c (length out)) (with_stage (Listen round) c) c ≡ speak c out)
-        × (unless_refused (round_refusal kind c (length out)) (to_columns kind c) out ≡ written c out)
-    unfolding speak speak_refusal written to_columns outgoing
-    speak_said e = let t = may_speak e in rw (t.by_length (length out), t.values) (refl, refl)
+  pub speak_said : (out : List ℕ) → in_state c (when_speaking c.stage) ≡ 0
+      → (answered (round_refusal kind c (length out)) (with_stage (Listen round) c) c ≡ speak c out)
+      × (unless_refused (round_refusal kind c (length out)) (to_columns kind c) out ≡ written c out)
+  unfolding speak speak_refusal written to_columns outgoing
+  speak_said out e = let t = may_speak e in rw (t.by_length (length out), t.values) (refl, refl)

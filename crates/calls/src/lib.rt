@@ -1,120 +1,108 @@
 // A column of a wall, in every protocol: the calls that make it, let it speak and listen in every round and ask it for its outcome or its
-// entry. Each equals its definition in `agreement`, of which the third demand and Definition 3.10 are proved. A refused call gives its number
-// and the state as it came, and writes nothing.
+// entry. Each equals its definition in `agreement`, of which the third demand and Definition 3.10 are proved. A refused call says why, and writes
+// nothing.
 #![tactic(auto)]
 
 mod endings;
 mod entries;
-mod speaking;
 mod start;
 
 ghost use Rattle.std.specs.Prelude.{◌≡◌};
-ghost use Rattle.agreement.specs.Calls.{answered as answered_of, fresh as fresh_of, speak as speak_of, written, listen as listen_of, outcome as outcome_of};
-ghost use Rattle.agreement.specs.Entries.{mark_only, sound_entry, told};
+ghost use Rattle.sizes.specs.Refusals.{Gives};
+ghost use Rattle.agreement.specs.Answers.{answered_in};
+ghost use Rattle.agreement.specs.Replies.{reply_in, bytes_in};
+ghost use Rattle.agreement.specs.Calls.{no_column, fresh as fresh_of, speak as speak_of, written, listen as listen_of, outcome_refusal, outcome as outcome_of};
+ghost use Rattle.agreement.specs.Entries.{mark_only, sound_entry};
 
-pub use agreement::{Answer, Answered, Column, Entry, Outcome, Replied, Reply, Stage, Told};
+pub use agreement::{Column, Entry, Outcome, Stage};
 pub use protocols::Protocol;
-
-// What a call answers: done, or the number of its refusal with the state as it was before.
-fn answered(why: u8, done: Column, before: Column) -> Answered
-    ensures { result ≡ answered_of why done before }
-{
-    if why != 0 {
-        return Answered {
-            answer: Answer::Refused(why),
-            column: before,
-        };
-    }
-    Answered {
-        answer: Answer::Done,
-        column: done,
-    }
-}
+pub use sizes::numbers::Refusal;
 
 // Makes column `own` of a wall of n columns, with a record of m bytes; of a posting only the poster has one. Refused with 1, 2, 3 for the
 // sizes, the own and the poster's number, with 4 for a record of another length.
-pub fn fresh(protocol: Protocol, n: u8, m: u8, own: u8, record: &[u8]) -> Answered
-    ensures { result ≡ fresh_of protocol n m own «record».now }
+pub fn fresh(protocol: Protocol, n: u8, m: u8, own: u8, record: &[u8]) -> Result<Column, Refusal>
+    ensures { answered_in result no_column ≡ fresh_of protocol n m own «record».now }
 {
-    let why = refusals::to_make(protocol, n, m, own, record.len());
-    answered(
-        why,
-        start::column(protocol, n, m, own, record),
-        start::no_column(),
-    )
+    refusals::to_make(protocol, n, m, own, record.len())?;
+    Ok(start::column(protocol, n, m, own, record))
+}
+
+// A column of no wall: every later call refuses it with 11.
+#[tactic(auto, unfolding(agreement::specs::Calls::no_column))]
+pub fn no_column() -> Column
+    ensures { result ≡ no_column }
+{
+    start::column(Protocol::Agreement, 0, 0, 0, &[])
 }
 
 // Writes the messages of the round to the outgoing slice: one to each column, itself included, by column number, each as long as
-// `protocols::values_in` says. Refused with 11 for a state out of its ranges, 10 after the end, 7 when the column should listen, then 4 for a slice
-// of another length.
-pub fn speak(column: Column, out: &mut [u16]) -> Answered
-    ensures { (result ≡ speak_of column out.old) × (out.new ≡ written column out.old) }
+// `protocols::values_in` says. Returns the state after it. Refused with 11 for a state out of its ranges, 10 after the end, 7 when the column should
+// listen, then 4 for a slice of another length.
+pub fn speak(column: Column, out: &mut [u16]) -> Result<Column, Refusal>
+    ensures { (answered_in result column ≡ speak_of column out.old) × (out.new ≡ written column out.old) }
 {
-    speaking::speak(column, out)
+    refusals::to_speak(column)?;
+    let round = refusals::round_of(column.stage);
+    let kind = protocols::kind_in(column.protocol, column.n, round);
+    rounds::say(kind, column, out)?;
+    Ok(Column {
+        stage: Stage::Listen(round),
+        ..column
+    })
 }
 
 // Reads the messages of the round from the incoming slice, which lie there as they were written; what lies at the own place is not read.
-// Refused with 11, 10, 8 when the column should speak, then 4.
-pub fn listen(column: Column, inbox: &[u16]) -> Answered
-    ensures { result ≡ listen_of column inbox.now }
+// Returns the state after it. Refused with 11, 10, 8 when the column should speak, then 4.
+pub fn listen(column: Column, inbox: &[u16]) -> Result<Column, Refusal>
+    ensures { answered_in result column ≡ listen_of column inbox.now }
 {
-    let why = refusals::to_listen(column);
-    if why != 0 {
-        return answered(why, column, column);
-    }
-    let protocol = column.protocol;
-    let stage = column.stage;
-    let round = refusals::round_of(stage);
-    let next = round + 1;
-    let kind = protocols::kind_in(protocol, column.n, round);
-    rounds::hear(kind, Stage::Speak(next), column, inbox)
+    refusals::to_listen(column)?;
+    let round = refusals::round_of(column.stage);
+    let next = Stage::Speak(round + 1);
+    let kind = protocols::kind_in(column.protocol, column.n, round);
+    rounds::hear(kind, next, column, inbox)
 }
 
-// What the column ended on, with the grade that goes with it and the record's bytes: zeros past m, and zeros where there is none. Refused with
-// 11, then with 9 before the end.
-pub fn outcome(column: Column) -> Replied
-    ensures { result ≡ outcome_of column }
+// The record that the column ended on, with zeros past m, or none. Refused with 11, then with 9 before the end.
+pub fn outcome(column: Column) -> Result<Option<[u8; 32]>, Refusal>
+    ensures { (reply_in result ≡ (outcome_of column).reply) × (bytes_in result ≡ (outcome_of column).bytes) }
 {
-    let why = refusals::to_ask(column);
-    let protocol = column.protocol;
-    if why != 0 {
-        let refused = Reply::Refused(why);
-        return Replied {
-            reply: refused,
-            grade: endings::grade_shown(protocol, column.grade, refused),
-            bytes: [0u8; 32],
-            column: column,
-        };
-    }
-    let stage = column.stage;
-    let ended = endings::ending(stage);
-    let bytes = column.bytes;
-    let reply = Reply::Ended(ended);
-    Replied {
-        reply: reply,
-        grade: endings::grade_shown(protocol, column.grade, reply),
-        bytes: endings::shown(ended, bytes),
-        column: column,
-    }
+    refusals::to_ask(column)?;
+    Ok(endings::record(column))
+}
+
+// The grade that goes with the outcome, refused or not: in an agreement the one with which the column left dispersal, in a posting the outcome's.
+pub fn grade(column: Column) -> u8
+    ensures { result ≡ (outcome_of column).grade }
+{
+    endings::grade_shown(column, outcome(column))
 }
 
 // The entry of an unsound column: its mark and zeros.
+#[tactic(auto, unfolding(agreement::specs::Entries::mark_only))]
 pub fn mark_only(mark: u8) -> Entry
     ensures { result ≡ mark_only mark }
 {
-    entries::mark_only(mark)
+    Entry {
+        mark,
+        grade: 0,
+        vote: 0,
+        has_record: false,
+        bytes: [0; 32],
+    }
 }
 
 // The entry of a sound column that came to an outcome.
 pub fn sound_entry(column: Column) -> Entry
     ensures { result ≡ sound_entry column }
 {
-    entries::sound_entry(column)
+    entries::sound_entry(column, outcome(column))
 }
 
 // The entry of a column that may have come to none. Refused as a call for the outcome is: with 11, then with 9 before the end.
-pub fn tell(column: Column) -> Told
-    ensures { result ≡ told column }
+pub fn tell(column: Column) -> Result<Entry, Refusal>
+    ensures { Gives result (outcome_refusal column) (sound_entry column) }
 {
-    entries::tell(column)
+    let record = outcome(column)?;
+    Ok(entries::sound_entry(column, Ok(record)))
 }

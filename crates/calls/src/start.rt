@@ -2,21 +2,17 @@
 ghost use Rattle.std.specs.Prelude.{◌≡◌, cond, [], eqb};
 ghost use Rattle.block.specs.Block.{part};
 ghost use Rattle.agreement.specs.Column.{fresh_vote, brought, fresh_column};
-ghost use Rattle.agreement.specs.Calls.{no_column};
 
 use agreement::{Column, Stage};
 use field::Field;
 use protocols::Protocol;
+use std::array;
 
 // A record in 32 places.
 fn places(bytes: &[u8]) -> [u8; 32]
     ensures { result ≡ part bytes.now 0 32 }
 {
-    let mut all = [0u8; 32];
-    for p in 0..32 {
-        all[p] = messages::byte(bytes, p);
-    }
-    all
+    array::from_fn(|p| messages::byte(bytes, p))
 }
 
 // In a posting only the poster has a record.
@@ -26,10 +22,11 @@ fn posted(poster: u8, own: u8, bytes: &[u8]) -> [u8; 32]
     if own == poster {
         return places(bytes);
     }
-    [0u8; 32]
+    [0; 32]
 }
 
 // The record that a column brings.
+#[tactic(auto, unfolding(agreement::specs::Column::brought))]
 fn record_of(protocol: Protocol, own: u8, bytes: &[u8]) -> [u8; 32]
     ensures { result ≡ part (brought protocol own bytes.now) 0 32 }
 {
@@ -40,26 +37,24 @@ fn record_of(protocol: Protocol, own: u8, bytes: &[u8]) -> [u8; 32]
 }
 
 // And its vote.
+#[tactic(auto, unfolding(agreement::specs::Column::fresh_vote))]
 fn vote_of(protocol: Protocol) -> u8
     ensures { result ≡ fresh_vote protocol }
 {
-    if protocols::posts(protocol) {
-        return 1;
-    }
-    0
+    u8::from(protocols::posts(protocol))
 }
 
 // A column that is to speak in round 1, with nothing heard yet.
+#[tactic(auto, unfolding(agreement::specs::Column::fresh_column))]
 pub(super) fn column(protocol: Protocol, n: u8, m: u8, own: u8, bytes: &[u8]) -> Column
     ensures { result ≡ fresh_column protocol n m own bytes.now }
 {
-    let record = record_of(protocol, own, bytes);
     Column {
-        protocol: protocol,
-        n: n,
-        m: m,
-        own: own,
-        bytes: record,
+        protocol,
+        n,
+        m,
+        own,
+        bytes: record_of(protocol, own, bytes),
         proposal: Field::BLANK,
         stage: Stage::Speak(1),
         agreements: [false; 31],
@@ -69,12 +64,4 @@ pub(super) fn column(protocol: Protocol, n: u8, m: u8, own: u8, bytes: &[u8]) ->
         firm: false,
         kept: [Field::BLANK; 32],
     }
-}
-
-// A column of no wall: every later call refuses it with 11.
-pub(super) fn no_column() -> Column
-    ensures { result ≡ no_column }
-{
-    let nothing = [0u8; 0];
-    column(Protocol::Agreement, 0, 0, 0, &nothing)
 }

@@ -1,12 +1,10 @@
 -- The definitions of a record as a codeword: a record in its 32 places, and its values at a point, one for each block. Document 01, "Rounds" 1:
 -- "Column i sends to j its values at i, one per block, then its values at j."
-use Rattle.std.specs.Prelude.{◌≡◌, Bool, cond, ◌&&◌, List, ◌++◌, ℕ, ◌+◌, ◌-◌, ◌*◌, ◌≤◌, eqb, leb, length, get_or, drop, replicate}
+use Rattle.std.specs.Prelude.{◌≡◌, Bool, cond, ◌&&◌, List, ◌++◌, ℕ, ◌+◌, ◌-◌, ◌*◌, ◌≤◌, eqb, leb, length, get_or, drop}
 use Rattle.lists.specs.Lists.{all, Below, list_of, rows_of}
 use Rattle.block.specs.Block.{block, value}
-use Rattle.field.specs.Field.{blank}
 use Rattle.sizes.specs.Sizes.{degree, blocks, refusal as refusal_of_sizes}
-use Rattle.messages.specs.Messages.{said, laid, refusal, unless_refused}
-use Rattle.codeword.specs.declared.ValuesAt.{ValuesAt}
+use Rattle.messages.specs.Messages.{said, refusal, unless_refused}
 
 -- a record of m bytes in its 32 places: "bytes past m are 0"
 pub record Held (m : ℕ) (bytes : List ℕ) : Type 0 where
@@ -21,14 +19,6 @@ point n bytes x k = value (block (degree n) bytes k) x
 -- "its values at i, one per block"
 unfoldable pub values : ℕ → ℕ → List ℕ → ℕ → List ℕ
 values n m bytes x = list_of (point n bytes x) (blocks n m)
-
--- a call for the values at the point of column i: 1, 2, 3 for the sizes and the number; in 32 places, all blank where it is refused
-unfoldable pub values_for : ℕ → ℕ → List ℕ → ℕ → ValuesAt
-values_for n m bytes i =
-    record {
-      refusal = refusal_of_sizes n m i;
-      values = cond (eqb (refusal_of_sizes n m i) 0) (laid 32 (values n m bytes i)) (replicate 32 blank);
-    }
 
 -- in block k the two records have one value at the point x
 unfoldable pub meet_in : ℕ → List ℕ → List ℕ → ℕ → ℕ → Bool

@@ -12,9 +12,9 @@ use Rattle.field.specs.Field.{blank}
 use Rattle.block.specs.Block.{part, value, word_at}
 use Rattle.sizes.specs.Sizes.{degree, blocks, refusal as refusal_of_sizes}
 use Rattle.sizes.proofs.Laws.{first_column}
-use Rattle.messages.specs.Messages.{said, laid, written, refusal, unless_refused}
+use Rattle.messages.specs.Messages.{said, written, refusal, unless_refused}
 use Rattle.messages.proofs.Laws.{written_fits, if_done}
-use Rattle.codeword.specs.Codeword.{point, values, values_for, codeword_at, codewords, codewords_refusal, across, across_refusal, written_across}
+use Rattle.codeword.specs.Codeword.{point, values, codeword_at, codewords, codewords_refusal, across, across_refusal, written_across}
 use Rattle.codeword.specs.Apart.{said_values, said_past}
 
 -- A VALUE, with the sizes at hand
@@ -39,21 +39,6 @@ four_bytes bytes from a b c d ea eb ec ed =
     let two : from + 2 ≡ suc (suc from) = omega arith in
     let three : from + 3 ≡ suc (suc (suc from)) = omega arith in
     rw (ea, eb, ec, ed, one, two, three) refl
-
--- a call for the values at a point
-module _ (n m i : ℕ) (bytes : List ℕ) (r : ℕ) (e : r ≡ refusal_of_sizes n m i) where
-  pub values_refused : (r ≡ 0 → ⊥) → record { refusal = r; values = replicate 32 blank } ≡ values_for n m bytes i
-  unfolding values_for
-  values_refused h = rw (← e, ne_eqb r 0 h) refl
-
-  pub values_done : (all : List ℕ) → r ≡ 0 → all ≡ laid 32 (values n m bytes i) → record { refusal = 0; values = all } ≡ values_for n m bytes i
-  unfolding values_for
-  values_done all z f = rw (← e, z, f) refl
-
--- what it answers where it is not refused
-pub values_there : (n m i : ℕ) (bytes : List ℕ) → refusal_of_sizes n m i ≡ 0 → (values_for n m bytes i).values ≡ laid 32 (values n m bytes i)
-unfolding values_for
-values_there n m i bytes e = rw e refl
 
 -- an array of one value
 copies : (v : ℕ) → replicate 32 v ≡ list_of (λ _. v) 32
@@ -91,12 +76,17 @@ unfolding codewords codeword_at row_at
 rows_are n m b size bytes e f =
     rows_of_same (row_at b size bytes) (codeword_at n m bytes) 32 32 (λ row i _ _ _. value_in_lem n m b size bytes (i + 1) (row - 1) e f)
 
--- where the sizes and the length fit, they were written
+-- where the sizes and the length fit, nothing is refused
+pub codewords_accepted : (n m number : ℕ) (before : List ℕ) → refusal_of_sizes n m number ≡ 0 → length before ≡ 1024
+    → codewords_refusal n m (length before) ≡ 0
+unfolding refusal
+codewords_accepted n m number before r h = rw (first_column n m number r, h) refl
+
+-- and they were written
 pub codewords_in : (n m number : ℕ) (bytes before : List ℕ) → refusal_of_sizes n m number ≡ 0 → length before ≡ 1024
     → unless_refused (codewords_refusal n m (length before)) (codewords n m bytes) before ≡ codewords n m bytes
-unfolding refusal
 codewords_in n m number bytes before r h =
-    if_done (codewords_refusal n m (length before)) (codewords n m bytes) before (rw (first_column n m number r, h) refl)
+    if_done (codewords_refusal n m (length before)) (codewords n m bytes) before (codewords_accepted n m number before r h)
 
 -- ACROSS THEM
 
@@ -113,6 +103,12 @@ across_is n m bytes i k h l =
 pub length_codewords : (n m : ℕ) (bytes : List ℕ) → length (codewords n m bytes) ≡ 1024
 unfolding codewords
 length_codewords n m bytes = length_rows_of (codeword_at n m bytes) 32 32
+
+-- what was written is as long as what was there
+pub length_written : (n m number : ℕ) (bytes before words : List ℕ) → refusal_of_sizes n m number ≡ 0 → length before ≡ 1024
+    → words ≡ unless_refused (codewords_refusal n m (length before)) (codewords n m bytes) before → length words ≡ 1024
+length_written n m number bytes before words r h e =
+    ap (λ (l : List ℕ). length l) (e ∙ codewords_in n m number bytes before r h) ∙ length_codewords n m bytes
 
 module _ (n b i words room : ℕ) where
   pub across_refused : (refusal_of_sizes n 1 i ≡ 0 → ⊥) → refusal_of_sizes n 1 i ≡ across_refusal n b i words room

@@ -35,40 +35,54 @@ module _ (state : List ℕ) where
       go true false e h = absurd (omega arith)
       go false b e h = absurd (omega arith)
 
-  module _ (why : ℕ) where
-    pub of_state : state_refusal state ≡ 0 → numbered state why ≡ why
-    unfolding numbered or_else
-    of_state s = rw s refl
-
-    -- its slice has its length
-    pub fits_state : state_refusal state ≡ 0 → refusal why 1 state_length (length state) ≡ numbered state why
-    fits_state s = go (eqb why 0) refl ∙ sym (of_state s)
-      where
-        len : length state ≡ state_length
-        len = state_length_lem state (is_state_lem s)
-
-        go : (b : Bool) → eqb why 0 ≡ b → refusal why 1 state_length (length state) ≡ why
-        go true e = let z = eqb-true why 0 e in not_refused why 1 state_length (length state) z len ∙ sym z
-        go false e = refused_before why 1 state_length (length state) (eqb-false why 0 e)
-
-  -- bytes that are refused: their number comes first, and every slice stays as it was
-  module _ (r : ℕ) (bad : r ≡ state_refusal state) (h : r ≡ 0 → ⊥) where
+  -- bytes that are refused: their number comes first
+  module _ (h : state_refusal state ≡ 0 → ⊥) where
     pub no_state : is_state state ≡ false
     no_state = go (is_state state) refl
       where
         go : (b : Bool) → is_state state ≡ b → b ≡ false
-        go true e = absurd (h (bad ∙ state_accepted e))
+        go true e = absurd (h (state_accepted e))
         go false e = refl
 
-    pub state_first : (why : ℕ) → r ≡ numbered state why
+    state_first : (w : ℕ) → numbered state w ≡ state_refusal state
     unfolding numbered or_else
-    state_first why = rw (← bad, ne_eqb r 0 h) refl
+    state_first w = rw (ne_eqb (state_refusal state) 0 h) refl
 
-    pub state_before : (why n w len : ℕ) → r ≡ refusal (numbered state why) n w len
-    state_before why n w len = let e = state_first why in e ∙ sym (refused_before _ n w len (λ z. h (e ∙ z)))
+  -- of a state: the call's own number
+  pub of_state : (w : ℕ) → state_refusal state ≡ 0 → numbered state w ≡ w
+  unfolding numbered or_else
+  of_state w s = rw s refl
 
-    pub left_alone : (why : ℕ) (done before : List ℕ) → r ≡ why → before ≡ unless_refused why done before
-    left_alone why done before e = sym (if_refused why done before (λ z. h (e ∙ z)))
+  -- its slice has its length
+  pub fits_state : (why : ℕ) → state_refusal state ≡ 0 → refusal why 1 state_length (length state) ≡ numbered state why
+  fits_state why s = go (eqb why 0) refl ∙ sym (of_state why s)
+    where
+      len : length state ≡ state_length
+      len = state_length_lem state (is_state_lem s)
+
+      go : (b : Bool) → eqb why 0 ≡ b → refusal why 1 state_length (length state) ≡ why
+      go true e = let z = eqb-true why 0 e in not_refused why 1 state_length (length state) z len ∙ sym z
+      go false e = refused_before why 1 state_length (length state) (eqb-false why 0 e)
+
+-- A REFUSED CALL: it answers k, which is to be w
+abbrev pub Told : ℕ → ℕ → Type 0
+Told k w = (k ≡ w) × (w ≡ 0 → ⊥)
+
+module _ {k : ℕ} where
+  -- for its bytes, and for a reason of its own
+  pub told_bad : (state : List ℕ) (w : ℕ) → Told k (state_refusal state) → Told k (numbered state w)
+  told_bad state w t = let e = state_first state t.1 w in (t.0 ∙ sym e, λ z. t.1 (sym e ∙ z))
+
+  pub told_own : (state : List ℕ) (w : ℕ) → state_refusal state ≡ 0 → Told k w → Told k (numbered state w)
+  told_own state w s t = let e = of_state state w s in (t.0 ∙ sym e, λ z. t.1 (sym e ∙ z))
+
+  -- before the length of the slice that it writes to
+  pub told_before : (w n width len : ℕ) → Told k w → Told k (refusal w n width len)
+  told_before w n width len t = let e = refused_before w n width len t.1 in (t.0 ∙ sym e, λ z. t.1 (sym e ∙ z))
+
+  -- the slice stays as it was
+  pub told_left : (w : ℕ) (done before : List ℕ) → Told k w → (k ≡ w) × (before ≡ unless_refused w done before)
+  told_left w done before t = (t.0, sym (if_refused w done before t.1))
 
 -- HOW LONG A RUN IS
 

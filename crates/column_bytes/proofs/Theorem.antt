@@ -23,7 +23,7 @@ use Rattle.machine.specs.Gradecast.{Posted}
 use Rattle.machine.specs.Simulates.{Makes, Simulates}
 use Rattle.machine.proofs.Carried.{demand_carried, settled_carried, posted_carried}
 use Rattle.machine.proofs.Lifted.{all_lifted, lifted}
-use Rattle.agreement.specs.declared.Reply.TheVariants.{Ended, Refused}
+use Rattle.agreement.specs.Replies.{Ended, Refused}
 use Rattle.agreement.specs.declared.Column.{Column}
 use Rattle.agreement.specs.Calls.{or_else, refusal_of, answered, fresh_refusal, outcome_refusal, ending, reply_of, outcome, refusal_in}
 use Rattle.agreement.specs.Calls as C

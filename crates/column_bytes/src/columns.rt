@@ -6,8 +6,10 @@ ghost use Rattle.column_bytes.specs.Calls.{narrow as narrow_of, rounds_of, value
 use crate::answers;
 use crate::numbers::narrow;
 use protocols::Protocol;
+use sizes::numbers::number_in;
 
 // The rounds of a run of the protocol with this number on a wall of n columns; 0 where there is no such protocol or wall.
+#[tactic(auto, using(sizes::proofs::Laws::inside), unfolding(crate::specs::Calls::rounds_of))]
 pub fn column_rounds(runs: u32, n: u32) -> usize
     ensures { result ≡ rounds_of runs n }
 {
@@ -21,6 +23,7 @@ pub fn column_rounds(runs: u32, n: u32) -> usize
 }
 
 // The values of one message in a round; 0 where there is no such protocol, n or m is no wall's, or the run has no such round.
+#[tactic(auto, using(sizes::proofs::Laws::inside, crate::proofs::Laws::runs_some), unfolding(crate::specs::Calls::values_of))]
 pub fn column_values(runs: u32, n: u32, m: u32, round: u32) -> usize
     ensures { result ≡ values_of runs n m round }
 {
@@ -43,14 +46,14 @@ pub fn column_fresh(n: u32, m: u32, own: u32, record: &[u8], state: &mut [u8]) -
     ensures { (result ≡ fresh_answer Agreement (narrow_of n) (narrow_of m) (narrow_of own) «record».now state.old)
         × (state.new ≡ fresh_state Agreement (narrow_of n) (narrow_of m) (narrow_of own) «record».now state.old) }
 {
-    answers::fresh(
+    number_in(answers::fresh(
         Protocol::Agreement,
         narrow(n),
         narrow(m),
         narrow(own),
         record,
         state,
-    )
+    ))
 }
 
 // The same of a posting by column `poster`, whose record alone is kept. Refused with 3 for its number too.
@@ -58,14 +61,14 @@ pub fn posting_fresh(n: u32, m: u32, own: u32, poster: u32, record: &[u8], state
     ensures { (result ≡ fresh_answer (Posting (narrow_of poster)) (narrow_of n) (narrow_of m) (narrow_of own) «record».now state.old)
         × (state.new ≡ fresh_state (Posting (narrow_of poster)) (narrow_of n) (narrow_of m) (narrow_of own) «record».now state.old) }
 {
-    answers::fresh(
+    number_in(answers::fresh(
         Protocol::Posting(narrow(poster)),
         narrow(n),
         narrow(m),
         narrow(own),
         record,
         state,
-    )
+    ))
 }
 
 // Writes the messages of the round to the outgoing slice: `calls::speak`. Refused with 4 for a state not of its length, then 11, 10, 7, 4.
@@ -73,24 +76,14 @@ pub fn column_speak(state: &mut [u8], out: &mut [u16]) -> u8
     ensures { (result ≡ speak_answer state.old out.old) × (state.new ≡ speak_state state.old out.old)
         × (out.new ≡ speak_out state.old out.old) }
 {
-    let bad = answers::state_refusal(state);
-    if bad != 0 {
-        return bad;
-    }
-    let column = state_bytes::decode(state);
-    answers::keep(calls::speak(column, out), state)
+    number_in(answers::speak(state, out))
 }
 
 // Reads the messages of the round from the incoming slice: `calls::listen`. Refused with 4 for a state not of its length, then 11, 10, 8, 4.
 pub fn column_listen(state: &mut [u8], inbox: &[u16]) -> u8
     ensures { (result ≡ listen_answer state.old inbox.now) × (state.new ≡ listen_state state.old inbox.now) }
 {
-    let bad = answers::state_refusal(state);
-    if bad != 0 {
-        return bad;
-    }
-    let column = state_bytes::decode(state);
-    answers::keep(calls::listen(column, inbox), state)
+    number_in(answers::listen(state, inbox))
 }
 
 // Writes what the column ended on to a slice of an entry's length: `calls::tell`, with the grade of the outcome and the last vote. Refused with 4 for
@@ -98,16 +91,5 @@ pub fn column_listen(state: &mut [u8], inbox: &[u16]) -> u8
 pub fn column_outcome(state: &[u8], out: &mut [u8]) -> u8
     ensures { (result ≡ outcome_answer state.now out.old) × (out.new ≡ outcome_out state.now out.old) }
 {
-    let bad = answers::state_refusal(state);
-    if bad != 0 {
-        return bad;
-    }
-    let told = calls::tell(state_bytes::decode(state));
-    let refused = state_bytes::entries::refusal(told.refusal, out.len());
-    if refused != 0 {
-        return refused;
-    }
-    let entry = told.entry;
-    state_bytes::entries::put(entry, out);
-    0
+    number_in(answers::outcome(state, out))
 }

@@ -27,7 +27,7 @@ use Rattle.decoder.specs.Exactly.{Accepts}
 use Rattle.decoder.proofs.Exactly.{sizes, is_answer, no_answer}
 use Rattle.decoder.specs.Places.{present_at, usable, Chain, Chosen, chain_chosen}
 use Rattle.decoder.specs.declared.Coefficients.{Coefficients}
-use Rattle.decoder.specs.declared.Decoded.TheVariants.{Polynomial, Nothing}
+use Rattle.decoder.specs.Decoder.{Polynomial, Nothing}
 use Rattle.decoder.specs.Answers.{Through, Candidate}
 
 -- FOUR COEFFICIENTS FOR AT MOST FOUR

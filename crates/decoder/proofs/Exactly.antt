@@ -1,5 +1,10 @@
 -- THE THEOREM of the definition `decoded`, `exactly`: for n points, 4 to 31, it gives f exactly when f has d + 1 coefficients below 257
 -- and meets at least n - t of them, and none exactly when no such f exists. Otherwise it refuses: `refused_1`, `refused_4`.
+use Rattle.std.specs.Prelude as P
+use Rattle.sizes.specs.declared.numbers.Refusal.{Refusal}
+use Rattle.sizes.specs.Refusals.{number_in}
+use Rattle.decoder.specs.declared.Coefficients.{Coefficients}
+use Rattle.decoder.specs.Decoder.{decoded_in}
 use Rattle.std.specs.Prelude.{◌≡◌, ◌⊎◌, List, [], ◌∷◌, ℕ, ◌+◌, ◌-◌, ◌≤◌, ◌<◌, T, length, take}
 use Rattle.std.proofs.Math.Path.{refl, ap}
 use Rattle.std.proofs.Common.{sym, ◌∙◌, arith, eqb→eq}
@@ -13,7 +18,7 @@ use Rattle.sizes.proofs.Laws.{accepted as sizes_accepted, columns_sized, columns
 use Rattle.messages.specs.Messages.{from as at}
 use Rattle.decoder.specs.Decoder.{meets_at, IsAnswer, found, coefficients, answer_of, decoded, refusal_of, four, polynomial_of}
 use Rattle.decoder.proofs.Search.{seek_finds, seek_answers}
-use Rattle.decoder.specs.declared.Decoded.TheVariants.{Polynomial, Nothing, Refused}
+use Rattle.decoder.specs.Decoder.{Polynomial, Nothing, Refused}
 use Rattle.decoder.specs.Exactly.{Exactly, Accepts}
 
 -- a blank is met by no polynomial
@@ -109,3 +114,14 @@ module _ (n : ℕ) (points : List ℕ) where
   accepts_of e f =
       let r = sizes_accepted n 1 1 e in
       record { low = r.range.columns_low; high = r.range.columns_high; full = f }
+
+-- what is told of a refusal by what a call returns
+tells : (r : P.Result (P.Option Coefficients) Refusal) → number_in r ≡ refusal_of (decoded_in r)
+unfolding refusal_of
+tells (P.Ok P.None) = refl
+tells (P.Ok (P.Some c)) = refl
+tells (P.Err why) = refl
+
+-- n points are not refused
+pub answered : (n : ℕ) (points : List ℕ) → Accepts n points → (r : P.Result (P.Option Coefficients) Refusal) → decoded_in r ≡ decoded n points → number_in r ≡ 0
+answered n points a r e = tells r ∙ ap refusal_of e ∙ (exactly n points a).accepts

@@ -17,7 +17,7 @@ use Rattle.decoder.specs.Answers.{Through}
 use Rattle.decoder.proofs.Answers.{meets_too}
 use Rattle.decoder.specs.Steps.{make, same}
 use Rattle.decoder.specs.declared.Coefficients.{Coefficients}
-use Rattle.decoder.specs.declared.Decoded.TheVariants.{Nothing}
+use Rattle.decoder.specs.Decoder.{Nothing}
 use Rattle.decoder.specs.Windows.{window}
 
 rising : (a k : ℕ) → a + k < 257 → Rising (suc a) (window a k)

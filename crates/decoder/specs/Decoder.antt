@@ -1,15 +1,16 @@
 -- The definitions of decoding, by search: of the polynomials through d + 1 of the places the first that meets at least n - t points. Document 01,
 -- "Rounds" 6: "the polynomial of degree at most d that meets at least n - t of them (a blank meets none), or none".
 use Rattle.std.specs.Prelude.{Bool, cond, List, [], ◌∷◌, map, ℕ, zero, suc, ◌+◌, ◌-◌, ◌≤◌, eqb, leb, length, get_or, take, ◌≡◌}
+use Rattle.std.specs.Prelude as P
 use Rattle.std.proofs.Math.Option.{Option, none, some}
 use Rattle.lists.specs.Lists.{count, Below}
 use Rattle.field.specs.Field.{of, subtract, multiply, inverse}
 use Rattle.block.specs.Block.{value}
 use Rattle.messages.specs.Messages.{from as at}
 use Rattle.sizes.specs.Sizes.{faults, degree, refusal}
+use Rattle.sizes.specs.declared.numbers.Refusal.{Refusal}
+use Rattle.sizes.specs.Refusals.{number}
 use Rattle.decoder.specs.declared.Coefficients.{Coefficients}
-use Rattle.decoder.specs.declared.Decoded.{Decoded}
-use Rattle.decoder.specs.declared.Decoded.TheVariants.{Polynomial, Nothing, Refused}
 
 -- the points lie by place, counted from 1, as messages by column number (`at`). The polynomial f meets y at x. "A blank meets none": a value is below 257, and a blank is not
 abbrev pub meets_at : List ℕ → (ℕ → ℕ) → ℕ → Bool
@@ -71,6 +72,20 @@ unfoldable pub found : ℕ → List ℕ → Option (List ℕ)
 found n points = seek n (at points) (n - faults n) n (degree n + 1) []
 
 -- ITS ANSWER
+
+pub data Decoded : Type 0 where
+  Polynomial : Coefficients → Decoded
+  Nothing : Decoded
+  Refused : ℕ → Decoded
+
+-- read off what a call returns: a polynomial, or that there is none, or why it is refused
+abbrev pub found_in : P.Option Coefficients → Decoded
+found_in P.None = Nothing
+found_in (P.Some c) = Polynomial c
+
+abbrev pub decoded_in : P.Result (P.Option Coefficients) Refusal → Decoded
+decoded_in (P.Ok found) = found_in found
+decoded_in (P.Err why) = Refused (number why)
 
 abbrev pub coefficients : List ℕ → Coefficients
 coefficients f = record { c0 = get_or f 0 0; c1 = get_or f 1 0; c2 = get_or f 2 0; c3 = get_or f 3 0 }

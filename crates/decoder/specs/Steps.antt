@@ -1,6 +1,7 @@
 -- What the functions of the code cite: four numbers as a list, one coefficient more, one slope more.
-use Rattle.std.specs.Prelude.{◌≡◌, refl, Bool, true, false, cond, List, [], ◌∷◌, map, ℕ, zero, suc, ◌+◌, ◌-◌, ◌≤◌, ◌<◌, T, eqb, ltb, length, get_or, take}
-use Rattle.std.proofs.Common.{sym, ap, ◌∙◌, ⊎_elim, eq-or-lt_of_le, le_of_suc-le-suc, add-one, arith, T_not, length-take}
+use Rattle.std.specs.Prelude.{◌≡◌, refl, Bool, true, false, cond, List, [], ◌∷◌, map, ℕ, zero, suc, ◌+◌, ◌-◌, ◌≤◌, ◌<◌, eqb, ltb, length, get_or, take, max, Option, None, Some, MatchOption}
+use Rattle.std.specs.Option.{unwrap_or}
+use Rattle.std.proofs.Common.{sym, ap, ◌∙◌, arith, T_not, length-take}
 use Rattle.lists.specs.Lists.{bit, count, list_of}
 use Rattle.lists.specs.Entries.{get_d_within, get_d_list_of}
 use Rattle.lists.specs.Count.{count_same}
@@ -115,26 +116,16 @@ same_index word points i h =
 
 -- FINDING THE NEXT PLACE
 
--- none of the places from `from` to x - 1 passes
-pub record Passed (P : ℕ → Bool) (from x : ℕ) : Type 0 where
-  pub later : from ≤ x
-  pub near : x ≤ from + 32
-  pub skipped : (i : ℕ) → from ≤ i → i < x → T (P i) → ⊥
+-- the first of the places before 33 that passes, or a place behind them
+module _ (P : ℕ → Bool) (from : ℕ) (low : 1 ≤ from) where
+  pub next_found : (x : ℕ) → from ≤ x → x < 33 → P x ≡ true → ((i : ℕ) → from ≤ i → i < x → P i ≡ false) → Next P from x × (x ≤ from + 32)
+  next_found x a b e h = (record { later = a; skipped = λ i l u t. T_not (P i) (rw (h i l u) tt) t; passes = λ l. rw e tt }, omega arith)
 
-pub passed_none : (P : ℕ → Bool) (from : ℕ) → Passed P from from
-passed_none P from = record { later = omega arith; near = omega arith; skipped = λ i l u. absurd (omega arith) }
+  pub next_none : ((i : ℕ) → from ≤ i → i < 33 → P i ≡ false) → Next P from (max from 33) × (max from 33 ≤ from + 32)
+  next_none h =
+      (record { later = omega arith; skipped = λ i l u t. T_not (P i) (rw (h i l (omega arith)) tt) t; passes = λ l. absurd (omega arith) }, omega arith)
 
-module _ (P : ℕ → Bool) (from x : ℕ) (p : Passed P from x) where
-  pub passed_more : 1 ≤ from → x ≤ 32 → P x ≡ false → Passed P from (x + 1)
-  passed_more l h e =
-      record {
-        later = omega (arith, p.later);
-        near = omega arith;
-        skipped = λ i a u t. ⊎_elim (λ (s : i ≡ x). T_not (P x) (rw e tt) (rw s at t)) (λ (b : i < x). p.skipped i a b t) (eq-or-lt_of_le (le_of_suc-le-suc (rw add-one at u)));
-      }
-
-  pub passed_found : P x ≡ true → Next P from x × (x ≤ from + 32)
-  passed_found e = (record { later = p.later; skipped = p.skipped; passes = λ h. rw e tt }, p.near)
-
-  pub passed_all : 32 < x → Next P from x × (x ≤ from + 32)
-  passed_all h = (record { later = p.later; skipped = p.skipped; passes = λ l. absurd (omega arith) }, p.near)
+  pub next_is : (r : Option ℕ) → MatchOption r ((i : ℕ) → from ≤ i → i < 33 → P i ≡ false) (λ x. (from ≤ x) × (x < 33) × (P x ≡ true) × ((i : ℕ) → from ≤ i → i < x → P i ≡ false))
+      → Next P from (unwrap_or r (max from 33)) × (unwrap_or r (max from 33) ≤ from + 32)
+  next_is None h = next_none h
+  next_is (Some x) h = next_found x h.0 h.1 h.2 h.3

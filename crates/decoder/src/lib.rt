@@ -7,7 +7,7 @@ ghost use Rattle.std.specs.Prelude.{◌≡◌, cond, map, ◌+◌, ◌≤◌, lt
 ghost use Rattle.lists.specs.Lists.{bit, count};
 ghost use Rattle.field.specs.Field.{subtract, multiply};
 ghost use Rattle.messages.specs.Messages.{from as at};
-ghost use Rattle.decoder.specs.Decoder.{hits as hits_of, slope as slope_of, slopes as slopes_of, through as through_of, coefficients, four, decoded};
+ghost use Rattle.decoder.specs.Decoder.{hits as hits_of, slope as slope_of, slopes as slopes_of, through as through_of, coefficients, four, decoded, found_in, decoded_in};
 ghost use Rattle.decoder.specs.Exactly.{Accepts};
 ghost use Rattle.decoder.specs.Places.{present_at, usable as usable_of, Next, Chain};
 ghost use Rattle.decoder.specs.Answers.{Given, Through, Candidate};
@@ -15,6 +15,7 @@ ghost use Rattle.decoder.specs.Windows.{window as window_of};
 ghost use Rattle.decoder.specs.Steps.{listed, tail_of, pushed};
 
 use field::Field;
+use sizes::numbers::Refusal;
 
 // A polynomial, its constant term first; coefficients that it does not have are 0.
 #[derive(Clone, Copy)]
@@ -23,13 +24,6 @@ pub struct Coefficients {
     pub c1: u16,
     pub c2: u16,
     pub c3: u16,
-}
-
-#[derive(Clone, Copy)]
-pub enum Decoded {
-    Polynomial(Coefficients),
-    Nothing,
-    Refused(u8),
 }
 
 // Four places, or the values there.
@@ -41,13 +35,12 @@ struct Four {
     d: u16,
 }
 
-// How many of the points a polynomial meets.
+// How many of the points a polynomial meets. By index, as below: where it was tried, an iterator's sum took a tenth longer.
 fn hits(n: usize, points: &[u16], c: Coefficients) -> usize
     requires { (n ≤ 31) × (length points.now ≡ n) }
     ensures { result ≡ hits_of (four c) (at points.now) n }
 {
-    let coefficients = [c.c0, c.c1, c.c2, c.c3];
-    let word = block::word(&coefficients, 4);
+    let word = block::word(&[c.c0, c.c1, c.c2, c.c3], 4);
     let mut sum = 0u16;
     for i in 0..n {
         sum += messages::flag(word[i] == points[i]) as u16;
@@ -59,10 +52,7 @@ fn hits(n: usize, points: &[u16], c: Coefficients) -> usize
 fn one_if_point(y: u16) -> u16
     ensures { result ≡ bit (ltb y 257) }
 {
-    if y < Field::MODULUS {
-        return 1;
-    }
-    0
+    u16::from(y < Field::MODULUS)
 }
 
 // How many of the points are not blank.
@@ -84,8 +74,7 @@ fn slope(wanted: bool, r: u16, v: u16, x: u16, u: u16) -> u16
     if wanted {
         let rise = Field::subtract(Field(u), Field(v));
         let run = Field::subtract(Field(x), Field(r));
-        let ratio = Field::multiply(rise, Field::inverse(run));
-        return ratio.0;
+        return Field::multiply(rise, Field::inverse(run)).0;
     }
     0
 }
@@ -107,20 +96,18 @@ fn slopes(k: usize, x: Four, v: Four) -> Four
 fn difference(v: u16, r: u16, c: u16) -> u16
     ensures { result ≡ subtract v (multiply r c) }
 {
-    let s = Field::subtract(Field(v), Field::multiply(Field(r), Field(c)));
-    s.0
+    Field::subtract(Field(v), Field::multiply(Field(r), Field(c))).0
 }
 
 // The polynomial with the value v at r and the quotient q there.
 fn push(v: u16, r: u16, q: Coefficients) -> Coefficients
     ensures { result ≡ pushed v r q }
 {
-    let last = Field::of(q.c2);
     Coefficients {
         c0: difference(v, r, q.c0),
         c1: difference(q.c0, r, q.c1),
         c2: difference(q.c1, r, q.c2),
-        c3: last.0,
+        c3: Field::of(q.c2).0,
     }
 }
 
@@ -157,10 +144,7 @@ fn through(k: usize, x: Four, v: Four) -> Coefficients
 fn at_place(points: &[u16], x: u16) -> u16
     ensures { result ≡ at points.now x }
 {
-    if x == 0 {
-        return messages::value(points, 0);
-    }
-    messages::value(points, (x - 1) as usize)
+    messages::value(points, x.saturating_sub(1) as usize)
 }
 
 // The points at four places.
@@ -180,11 +164,7 @@ fn usable(points: &[u16], es: &[u16; 64], x: u16) -> bool
     requires { (1 ≤ x) × (x ≤ 32) }
     ensures { result ≡ usable_of points.now es.now x }
 {
-    let i = (x - 1) as usize;
-    if at_place(points, x) < Field::MODULUS {
-        return es[i] != 0;
-    }
-    false
+    at_place(points, x) < Field::MODULUS && es[(x - 1) as usize] != 0
 }
 
 // The first usable place from `from` on; 33 or more if there is none.
@@ -192,14 +172,9 @@ fn next(points: &[u16], es: &[u16; 64], from: u16) -> u16
     requires { (1 ≤ from) × (from ≤ 1000) }
     ensures { Next (usable_of points.now es.now) from result × (result ≤ from + 32) }
 {
-    let mut x = from;
-    while x <= 32 {
-        if usable(points, es, x) {
-            return x;
-        }
-        x += 1;
-    }
-    x
+    (from..33)
+        .find(|x| usable(points, es, *x))
+        .unwrap_or(from.max(33))
 }
 
 // The first four usable places.
@@ -210,12 +185,7 @@ fn places(points: &[u16], es: &[u16; 64]) -> Four
     let b = next(points, es, a + 1);
     let c = next(points, es, b + 1);
     let d = next(points, es, c + 1);
-    Four {
-        a: a,
-        b: b,
-        c: c,
-        d: d,
-    }
+    Four { a, b, c, d }
 }
 
 // The polynomial of k coefficients through the points at the first usable places.
@@ -232,8 +202,7 @@ fn rise(k: usize, v: u16, u: u16) -> u16
     ensures { result ≡ cond (ltb 1 k) (subtract u v) 0 }
 {
     if 1 < k {
-        let up = Field::subtract(Field(u), Field(v));
-        return up.0;
+        return Field::subtract(Field(u), Field(v)).0;
     }
     0
 }
@@ -254,52 +223,52 @@ fn window(k: usize, points: &[u16], a: u16) -> Coefficients
 }
 
 // The answer for polynomials of k coefficients, one or two: t + 1 windows of k places lie side by side. A polynomial that meets enough
-// misses t places at most, so there is a window where it misses none, and it is the one through the points there.
-fn by_windows(n: usize, t: usize, k: usize, points: &[u16]) -> Decoded
+// misses t places at most, so there is a window where it misses none, and it is the one through the points there. The loop counts the windows.
+fn by_windows(n: usize, t: usize, k: usize, points: &[u16]) -> Option<Coefficients>
     requires { Given n t k points.now × (k ≤ 2) }
-    ensures { result ≡ decoded n points.now }
+    ensures { found_in result ≡ decoded n points.now }
 {
     let mut a = 0usize;
     for _ in 0..t + 1 {
         let c = window(k, points, a as u16);
         if n - t <= hits(n, points, c) {
-            return Decoded::Polynomial(c);
+            return Some(c);
         }
         a += k;
     }
-    Decoded::Nothing
+    None
 }
 
 // The answer for polynomials of any size: first the one through the first points, then the one through the first points that the
 // locator leaves. If that one does not meet enough either, none does.
-fn by_locator(n: usize, t: usize, k: usize, points: &[u16]) -> Decoded
+fn by_locator(n: usize, t: usize, k: usize, points: &[u16]) -> Option<Coefficients>
     requires { Given n t k points.now }
-    ensures { result ≡ decoded n points.now }
+    ensures { found_in result ≡ decoded n points.now }
 {
     let everywhere = [1u16; 64];
     let quick = candidate(k, points, &everywhere);
     if n - t <= hits(n, points, quick) {
-        return Decoded::Polynomial(quick);
+        return Some(quick);
     }
     let es = locator::locate((n - 2 * t - 1) as u8, points);
     let last = candidate(k, points, &es);
     if n - t <= hits(n, points, last) {
-        return Decoded::Polynomial(last);
+        return Some(last);
     }
-    Decoded::Nothing
+    None
 }
 
 // The answer for n points where nothing is refused. The size of a small block is handed on as a literal: then the compiler writes out what is
 // done with its coefficients.
-fn answer(n: u8, points: &[u16]) -> Decoded
+fn answer(n: u8, points: &[u16]) -> Option<Coefficients>
     requires { Accepts n points.now }
-    ensures { result ≡ decoded n points.now }
+    ensures { found_in result ≡ decoded n points.now }
 {
     let all = n as usize;
     let t = sizes::faults(n);
     let need = all - t;
     if present(all, points) < need {
-        return Decoded::Nothing;
+        return None;
     }
     let d = sizes::degree(n);
     match d {
@@ -311,15 +280,12 @@ fn answer(n: u8, points: &[u16]) -> Decoded
 
 // The polynomial of degree at most d that meets at least n - t of the n points, or none. It refuses n outside 4 to 31 with 1, and a
 // slice that does not hold n points with 4.
-pub fn decode(n: u8, points: &[u16]) -> Decoded
-    ensures { result ≡ decoded n points.now }
+pub fn decode(n: u8, points: &[u16]) -> Result<Option<Coefficients>, Refusal>
+    ensures { decoded_in result ≡ decoded n points.now }
 {
-    let why = sizes::refusal(n, 1, 1);
-    if why != 0 {
-        return Decoded::Refused(why);
-    }
+    sizes::refusal(n, 1, 1)?;
     if points.len() != n as usize {
-        return Decoded::Refused(4);
+        return Err(Refusal::Length);
     }
-    answer(n, points)
+    Ok(answer(n, points))
 }

@@ -1,12 +1,11 @@
 -- The definitions, in document 01's order. `A` is the set of columns that the column agrees with, `R` that of those whose first report
 -- came; `received j` is what came from column j.
-use Rattle.std.specs.Prelude.{Bool, false, cond, ◌&&◌, List, ◌++◌, ℕ, ◌+◌, ◌-◌, ◌*◌, eqb, ltb, leb, length, get_or, replicate}
+use Rattle.std.specs.Prelude.{Bool, false, cond, ◌&&◌, List, ◌++◌, ℕ, ◌+◌, ◌-◌, ◌*◌, eqb, ltb, leb, get_or}
 use Rattle.lists.specs.Lists.{count, all, list_of, rows_of}
 use Rattle.field.specs.Field.{blank}
 use Rattle.sizes.specs.Sizes.{faults, blocks, refusal as refusal_of_sizes}
 use Rattle.messages.specs.Messages.{read_point, read_report, said, refusal, heard, times}
 use Rattle.codeword.specs.Codeword.{point, values}
-use Rattle.dispersal.specs.declared.exchange.Agreed.{Agreed}
 
 -- ROUND 1
 
@@ -83,10 +82,3 @@ grade n own A R received = cond (second_quorum n own A R) (cond (leb (2 * faults
 
 abbrev pub exchange_refusal : ℕ → ℕ → ℕ → ℕ → ℕ
 exchange_refusal n m own len = refusal (refusal_of_sizes n m own) n (2 * blocks n m) len
-
-unfoldable pub agreed : ℕ → ℕ → ℕ → List ℕ → List ℕ → Agreed
-agreed n m own bytes inbox =
-    record {
-      refusal = exchange_refusal n m own (length inbox);
-      flags = cond (eqb (exchange_refusal n m own (length inbox)) 0) (agreements n m own bytes inbox) (replicate 31 false);
-    }

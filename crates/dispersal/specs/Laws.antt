@@ -1,7 +1,7 @@
 -- The laws of dispersal: what the code sends and compares is what the definitions say, value by value.
 use Rattle.std.specs.Prelude.{◌≡◌, Bool, cond, ◌&&◌, ◌||◌, List, ◌++◌, ℕ, ◌+◌, ◌-◌, ◌*◌, ◌≤◌, ◌<◌, T, ltb, leb, length, get_or, take, drop, replicate}
 use Rattle.std.proofs.Math.Path.{refl, sym, ap₂}
-use Rattle.std.proofs.Common.{ap, ◌∙◌, append_assoc, append-nil, eqb→eq, length-drop, take_at, drop_at, drop-drop, get_or-append-add}
+use Rattle.std.proofs.Common.{ap, ◌∙◌, append_assoc, append-nil, eqb→eq, length-append, length-drop, take_at, drop_at, drop-drop, get_or-append-add}
 use Rattle.std.proofs.Math.Bool.{true, false}
 use native.Mathlib.Omega.{arith}
 use Rattle.std.proofs.Math.Decide.{dec_lt}
@@ -23,7 +23,7 @@ use Rattle.messages.proofs.Laws.{point_is, same_report, same_point, heard_own, h
 use Rattle.codeword.specs.Codeword.{point, values, meet_in, meets, codewords, across, written_across}
 use Rattle.codeword.specs.Apart.{point_lt, length_values, said_values}
 use Rattle.codeword.specs.Words.{across_is, across_written, length_codewords}
-use Rattle.dispersal.specs.Dispersal.{exchange, exchanges, agrees_in, agrees_with, agreement_at, agreements, agrees, report_at, reports, reported, both, second_quorum, read_reports, grade, exchange_refusal, agreed}
+use Rattle.dispersal.specs.Dispersal.{exchange, exchanges, agrees_in, agrees_with, agreement_at, agreements, agrees, report_at, reports, reported, both, second_quorum, read_reports, grade}
 
 -- THE MESSAGE OF THE EXCHANGE
 
@@ -51,6 +51,20 @@ paired_list b words own j =
     (list_of_same (across words (j - 1)) (λ k. paired b words own j (b + k)) b (λ k l.
     let e : b + k - b ≡ k = omega arith in
     rw (le-ltb (b + k) b (omega arith), e) refl)))
+
+-- the own were written to the front of a part that has room for both
+module _ (n b : ℕ) (words : List ℕ) (own : ℕ) (d d₁ : List ℕ) (ho : refusal n 1 own ≡ 0) (hw : 32 * b ≤ length words) (room : 2 * b ≤ length d)
+    (p : d₁ ≡ written_across n b words own d) where
+  own_written : d₁ ≡ list_of (across words (own - 1)) b ++ drop b d
+  own_written = p ∙ across_written n b words own d ho (omega arith) hw
+
+  -- so there is room behind them
+  pub room_behind : b ≤ length (take (length d₁ - b) (drop b d₁))
+  room_behind =
+      let size : length d₁ ≡ b + (length d - b) =
+      ap (λ (l : List ℕ). length l) own_written
+      ∙ simp (length-append, length_list_of (across words (own - 1)) b, length-drop) refl in
+      rw (all_of d₁ b) (omega (arith, length-drop b d₁, size))
 
 -- both were written, those of column j through the part that starts behind the own
 pub paired_written : (n b : ℕ) (words : List ℕ) (own j : ℕ) (d d₁ e : List ℕ) → refusal n 1 own ≡ 0 → refusal n 1 j ≡ 0 → 32 * b ≤ length words → 2 * b ≤ length d
@@ -80,7 +94,7 @@ paired_written n b words own j d d₁ e ho hj hw room p q =
     size = length_list_of (across words (own - 1)) b
 
     first : d₁ ≡ mine ++ drop b d
-    first = p ∙ across_written n b words own d ho (omega arith) hw
+    first = own_written n b words own d d₁ ho hw room p
 
 -- they are the messages of the exchange
 pub paired_is : (n m own : ℕ) (bytes : List ℕ) (b : ℕ) (words : List ℕ) → refusal n m own ≡ 0 → b ≡ blocks n m → words ≡ codewords n m bytes
@@ -262,23 +276,6 @@ module _ (n m own : ℕ) (bytes inbox words mine : List ℕ) (r : refusal n m ow
   pub agreements_are : list_of (agrees_across n b own words mine inbox) 31 ≡ agreements n m own bytes inbox
   unfolding agreements
   agreements_are = list_of_same (agrees_across n b own words mine inbox) (agreement_at n m own bytes inbox) 31 (λ i _. agreement_is i (dec_lt i n))
-
--- THE CALLS ON SLICES
-
-module _ (n m own : ℕ) (bytes inbox : List ℕ) (r : ℕ) (e : r ≡ exchange_refusal n m own (length inbox)) where
-  pub agreed_refused : (r ≡ 0 → ⊥) → record { refusal = r; flags = replicate 31 false } ≡ agreed n m own bytes inbox
-  unfolding agreed
-  agreed_refused h = rw (← e, ne_eqb r 0 h) refl
-
-  pub agreed_done : (flags : List Bool) → r ≡ 0 → flags ≡ agreements n m own bytes inbox → record { refusal = 0; flags = flags } ≡ agreed n m own bytes inbox
-  unfolding agreed
-  agreed_done flags z f = rw (← e, z, f) refl
-
--- what it answers where it is not refused
-pub agreed_flags : (n m own : ℕ) (bytes inbox : List ℕ) → exchange_refusal n m own (length inbox) ≡ 0
-    → (agreed n m own bytes inbox).flags ≡ agreements n m own bytes inbox
-unfolding agreed
-agreed_flags n m own bytes inbox e = rw e refl
 
 -- REPORTS
 

@@ -2,18 +2,14 @@
 ghost use Rattle.std.specs.Prelude.{◌≡◌, ◌+◌, ◌-◌, ◌*◌, ◌≤◌, ◌<◌, ◌++◌, length, drop};
 ghost use Rattle.lists.specs.Lists.{all, list_of};
 ghost use Rattle.sizes.specs.Sizes.{blocks, refusal as refusal_of_sizes};
+ghost use Rattle.sizes.specs.Refusals.{number_in, Gives};
 ghost use Rattle.messages.specs.Messages.{unless_refused};
-ghost use Rattle.dispersal.specs.Dispersal.{exchanges, agreements as agreements_of, exchange_refusal, agreed};
+ghost use Rattle.dispersal.specs.Dispersal.{exchanges, agreements as agreements_of, exchange_refusal};
 ghost use Rattle.dispersal.specs.Laws.{paired, same_at, same_as, agrees_across};
 
 use field::Field;
-
-// What a call on the messages of the exchange answers: its refusal, 0 for none, and a flag for each column, all false where it refuses.
-#[derive(Clone, Copy)]
-pub struct Agreed {
-    pub refusal: u8,
-    pub flags: [bool; 31],
-}
+use sizes::numbers::Refusal;
+use std::array;
 
 // Writes the message to the column `to` to the front of a part of the outgoing slice: the values at the own point, then those at the
 // receiver's. `words` are the codewords of the record.
@@ -22,48 +18,40 @@ fn send_one(n: u8, b: u16, words: &[u16], own: u8, to: u8, part: &mut [u16])
     ensures { part.new ≡ list_of (paired b words.now own to) (2 * b) ++ drop (2 * b) part.old }
 {
     let second = b as usize;
-    codeword::write(n, b, words, own, part);
-    codeword::write(n, b, words, to, &mut part[second..]);
+    codeword::write(n, b, words, own, part).unwrap();
+    codeword::write(n, b, words, to, &mut part[second..]).unwrap();
 }
 
-// Writes the message to each of n columns, each through the part of the slice that starts at its place.
+// Writes the message to each of n columns, each through the part of the slice that starts at its place: so by number.
 fn send_all(n: u8, m: u8, own: u8, bytes: [u8; 32], out: &mut [u16])
     requires { (refusal_of_sizes n m own ≡ 0) × (n * (2 * blocks n m) ≡ length out.old) }
     ensures { out.new ≡ exchanges n m own bytes }
 {
     let b = sizes::blocks(n, m) as u16;
     let mut words = [Field::BLANK; 1024];
-    codeword::codewords(n, m, bytes, &mut words);
+    codeword::codewords(n, m, bytes, &mut words).unwrap();
     for j in 0..n {
         let at = messages::place(j, 2 * b, 0);
         send_one(n, b, &words, own, j + 1, &mut out[at..]);
     }
 }
 
-// The refusal of a call on a slice of the exchange's messages: 1, 2, 3 for the sizes and the own number, 4 for its length, or 0.
-fn refusal(n: u8, m: u8, own: u8, len: usize) -> u8
-    ensures { result ≡ exchange_refusal n m own len }
+// The refusal of a call on a slice of the exchange's messages: 1, 2, 3 for the sizes and the own number, 4 for its length.
+fn refusal(n: u8, m: u8, own: u8, len: usize) -> Result<(), Refusal>
+    ensures { number_in result ≡ exchange_refusal n m own len }
 {
-    messages::refusal(
-        sizes::refusal(n, m, own),
-        n,
-        2 * (sizes::blocks(n, m) as u16),
-        len,
-    )
+    sizes::refusal(n, m, own)?;
+    messages::refusal(n, 2 * (sizes::blocks(n, m) as u16), len)
 }
 
-// Sends the exchange: to each column the values at the own point, one per block, then those at the receiver's. Answers its refusal, 0
-// for none; a refused call writes nothing.
-pub fn send(n: u8, m: u8, own: u8, bytes: [u8; 32], out: &mut [u16]) -> u8
-    ensures { (result ≡ exchange_refusal n m own (length out.old))
+// Sends the exchange: to each column the values at the own point, one per block, then those at the receiver's. A refused call writes nothing.
+pub fn send(n: u8, m: u8, own: u8, bytes: [u8; 32], out: &mut [u16]) -> Result<(), Refusal>
+    ensures { (number_in result ≡ exchange_refusal n m own (length out.old))
         × (out.new ≡ unless_refused (exchange_refusal n m own (length out.old)) (exchanges n m own bytes) out.old) }
 {
-    let why = refusal(n, m, own, out.len());
-    if why != 0 {
-        return why;
-    }
+    refusal(n, m, own, out.len())?;
     send_all(n, m, own, bytes, out);
-    0
+    Ok(())
 }
 
 // Whether the b values from place `at` on are what the codewords have at place i.
@@ -71,15 +59,11 @@ fn same_values(b: usize, words: &[u16], i: usize, inbox: &[u16], at: usize) -> b
     requires { (i < 32) × (32 * b ≤ length words.now) × (at + b ≤ length inbox.now) }
     ensures { result ≡ all (same_at words.now i inbox.now at) b }
 {
-    for k in 0..b {
-        if inbox[at + k] != words[32 * k + i] {
-            return false;
-        }
-    }
-    true
+    (0..b).all(|k| inbox[at + k] == words[32 * k + i])
 }
 
-// Whether they are the first of `mine`, the values at the own point. They lie side by side, so that eight at a time are looked at.
+// Whether they are the first of `mine`, the values at the own point. By index, and not by `==` of slices: they lie side by side, so that eight at a
+// time are looked at.
 fn same_as(b: usize, mine: &[u16; 32], inbox: &[u16], at: usize) -> bool
     requires { (b ≤ 32) × (at + b ≤ length inbox.now) }
     ensures { result ≡ all (same_as mine.now inbox.now at) b }
@@ -117,6 +101,21 @@ fn agreement_at(
     same_as(b as usize, mine, inbox, at + b as usize)
 }
 
+// That of each column.
+fn each_agreement(
+    n: u8,
+    b: u16,
+    own: u8,
+    words: &[u16],
+    mine: &[u16; 32],
+    inbox: &[u16],
+) -> [bool; 31]
+    requires { (n ≤ 31) × (b ≤ 32) × (32 * b ≤ length words.now) × (n * (2 * b) ≡ length inbox.now) }
+    ensures { result ≡ list_of (agrees_across n b own words.now mine.now inbox.now) 31 }
+{
+    array::from_fn(move |i| agreement_at(n, b, own, words, mine, inbox, i as u8))
+}
+
 // The flags of all columns.
 fn flags(n: u8, m: u8, own: u8, bytes: [u8; 32], inbox: &[u16]) -> [bool; 31]
     requires { (refusal_of_sizes n m own ≡ 0) × (n * (2 * blocks n m) ≡ length inbox.now) }
@@ -124,31 +123,22 @@ fn flags(n: u8, m: u8, own: u8, bytes: [u8; 32], inbox: &[u16]) -> [bool; 31]
 {
     let b = sizes::blocks(n, m) as u16;
     let mut words = [Field::BLANK; 1024];
-    codeword::codewords(n, m, bytes, &mut words);
+    codeword::codewords(n, m, bytes, &mut words).unwrap();
     let mut mine = [Field::BLANK; 32];
-    codeword::write(n, b, &words, own, &mut mine);
-    let mut all = [false; 31];
-    for i in 0..31u8 {
-        let at = i as usize;
-        all[at] = agreement_at(n, b, own, &words, &mine, inbox, i);
-    }
-    all
+    codeword::write(n, b, &words, own, &mut mine).unwrap();
+    each_agreement(n, b, own, &words, &mine, inbox)
 }
 
 // Listens to the exchange: which columns the column agrees with, itself among them.
-pub fn agreements(n: u8, m: u8, own: u8, bytes: [u8; 32], inbox: &[u16]) -> Agreed
-    ensures { result ≡ agreed n m own bytes inbox.now }
+pub fn agreements(
+    n: u8,
+    m: u8,
+    own: u8,
+    bytes: [u8; 32],
+    inbox: &[u16],
+) -> Result<[bool; 31], Refusal>
+    ensures { Gives result (exchange_refusal n m own (length inbox.now)) (agreements_of n m own bytes inbox.now) }
 {
-    let why = refusal(n, m, own, inbox.len());
-    if why != 0 {
-        return Agreed {
-            refusal: why,
-            flags: [false; 31],
-        };
-    }
-    let heard = flags(n, m, own, bytes, inbox);
-    Agreed {
-        refusal: 0,
-        flags: heard,
-    }
+    refusal(n, m, own, inbox.len())?;
+    Ok(flags(n, m, own, bytes, inbox))
 }

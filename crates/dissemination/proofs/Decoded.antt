@@ -1,14 +1,14 @@
 -- From the decoder's answers to the record, as the code goes.
-use Rattle.std.specs.Prelude.{◌≡◌, Bool, true, false, not, ℕ, ◌+◌, ◌*◌, ◌/◌, ◌%◌, ◌≤◌, ◌<◌, ltb, length, take, drop, set, replicate}
+use Rattle.std.specs.Prelude.{◌≡◌, Option, Some, None, Bool, false, not, ℕ, ◌+◌, ◌*◌, ◌/◌, ◌%◌, ◌≤◌, ◌<◌, ltb, length, take, drop, set}
 use Rattle.std.proofs.Math.Path.{refl, sym, ap, fun_ext}
-use Rattle.std.proofs.Common.{subst, ◌∙◌, true≢false, div-lt_iff_lt-mul, get_or-take}
+use Rattle.std.proofs.Common.{subst, ◌∙◌, div-lt_iff_lt-mul, get_or-take}
 use Rattle.std.proofs.Math.Bool.{cond}
 use mathlib.Core.List.{List}
 use Rattle.std.proofs.Math.Option.{none, some}
 use Rattle.std.proofs.Math.Nat.{mod-lt, mod-eq_of_lt}
 use Rattle.std.proofs.Math.Decide.{dec_lt}
 use native.Mathlib.Omega.{arith}
-use borrow.Author.Tests.{lt-ltb, le-ltb, ne_eqb}
+use borrow.Author.Tests.{lt-ltb, le-ltb}
 use Rattle.std.proofs.Math.Dec.{T, ltb→lt}
 use Rattle.std.proofs.Math.ListN.{get_or, get_or-append}
 use Rattle.lists.specs.Lists.{all, list_of}
@@ -18,17 +18,17 @@ use Rattle.lists.specs.Entries.{all_each, all_same, all_fails, length_list_of, g
 use Rattle.field.specs.Field.{blank}
 use Rattle.sizes.specs.Sizes.{degree, blocks}
 use Rattle.sizes.specs.Laws.{InRange}
-use Rattle.sizes.proofs.Laws.{sized, accepted}
+use Rattle.sizes.proofs.Laws.{sized}
 use Rattle.messages.specs.Messages.{read_point, said}
-use Rattle.messages.proofs.Laws.{heard_same, accepted as messages_accepted}
+use Rattle.messages.proofs.Laws.{heard_same}
 use Rattle.decoder.specs.declared.Coefficients.{Coefficients}
-use Rattle.decoder.specs.declared.Decoded.{Decoded}
-use Rattle.decoder.specs.declared.Decoded.TheVariants.{Polynomial, Nothing, Refused}
+use Rattle.decoder.specs.Decoder.{Decoded}
+use Rattle.decoder.specs.Decoder.{Polynomial, Nothing, Refused}
 use Rattle.decoder.specs.Decoder.{decoded, four, polynomial_of}
-use Rattle.dissemination.specs.Dissemination.{spoken, points_in, point_at, block_of, there, coefficient, is_byte, is_block, byte_at, record_of, round_refusal, answer_of, refused_with, disseminated}
+use Rattle.dissemination.specs.Dissemination.{spoken, points_in, point_at, block_of, there, coefficient, is_byte, is_block, byte_at, record_of, record_in}
 use Rattle.dissemination.specs.Laws.{silenced}
 use Rattle.dissemination.proofs.Laws.{said_silenced}
-use Rattle.dissemination.specs.Decoding.{is_byte_at, byte_in, coefficient_of, answer_in, stored_at, Decodes, stored_byte}
+use Rattle.dissemination.specs.Decoding.{is_byte_at, byte_in, coefficient_of, answer_in, stored_at, Stored, Decodes, stored_byte}
 
 -- ONE BLOCK
 
@@ -88,21 +88,21 @@ module _ (n m : ℕ) (received : ℕ → ℕ → ℕ) where
       at_next i j l e p = rw e at p
 
 module _ (n m : ℕ) (received : ℕ → ℕ → ℕ) where
-  pub decodes_none : (k : ℕ) (coefficients : List ℕ) → k < blocks n m → is_block n m received k ≡ false → Decodes n m received false coefficients
-  decodes_none k coefficients h e = record { tells = sym (all_fails (is_block n m received) (blocks n m) k h e); places = λ t. absurd (true≢false (sym t)) }
+  pub decodes_none : (k : ℕ) → k < blocks n m → is_block n m received k ≡ false → Decodes n m received None
+  decodes_none k h e = all_fails (is_block n m received) (blocks n m) k h e
 
-  pub decodes_all : (zeros coefficients : List ℕ) (k : ℕ) → Done n m received zeros coefficients k → blocks n m ≤ k → Decodes n m received true coefficients
+  pub decodes_all : (zeros coefficients : List ℕ) (k : ℕ) → Done n m received zeros coefficients k → blocks n m ≤ k → Decodes n m received (Some coefficients)
   unfolding said
   decodes_all zeros coefficients k d h =
       record {
-        tells = checked_done (is_block n m received) (blocks n m) k d.checked h;
-        places = λ _ q l.
+        each = sym (checked_done (is_block n m received) (blocks n m) k d.checked h);
+        places = λ q l.
             ap (λ (c : List ℕ). get_or c q blank) (filled_part (stored_at n received) (4 * blocks n m) zeros coefficients (4 * k) d.filled (omega arith))
             ∙ get_or-append (list_of (stored_at n received) (4 * blocks n m)) (drop (4 * blocks n m) zeros) blank q (omega (arith, length_list_of (stored_at n received) (4 * blocks n m)))
             ∙ get_d_list_of (stored_at n received) (4 * blocks n m) q blank l;
       }
 
-module _ (n m : ℕ) (received : ℕ → ℕ → ℕ) (coefficients : List ℕ) (range : InRange n m) (d : Decodes n m received true coefficients) where
+module _ (n m : ℕ) (received : ℕ → ℕ → ℕ) (coefficients : List ℕ) (range : InRange n m) (d : Stored n m received coefficients) where
   -- a coefficient of a block is the decoder's
   from_decoder : (k c : ℕ) → c < degree n + 1 → coefficient_of (answer_in n received k) c ≡ coefficient (block_of n (received k)) c
   unfolding block_of answer_in polynomial_of coefficient coefficient_of
@@ -117,7 +117,7 @@ module _ (n m : ℕ) (received : ℕ → ℕ → ℕ) (coefficients : List ℕ) 
   is_small : (k c : ℕ) → k < blocks n m → c < degree n + 1 → coefficient (block_of n (received k)) c < 256
   unfolding is_block is_byte
   is_small k c h l =
-      let b : T (is_block n m received k) = all_each (is_block n m received) (blocks n m) (passes _ (sym d.tells)) k h in
+      let b : T (is_block n m received k) = all_each (is_block n m received) (blocks n m) (passes _ d.each) k h in
       let bytes : T (all (is_byte n m (block_of n (received k)) k) (degree n + 1)) = search conj in
       let byte : T (is_byte n m (block_of n (received k)) k c) = all_each (is_byte n m (block_of n (received k)) k) (degree n + 1) bytes c l in
       ltb→lt (coefficient (block_of n (received k)) c) 256 (search conj)
@@ -137,7 +137,7 @@ module _ (n m : ℕ) (received : ℕ → ℕ → ℕ) (coefficients : List ℕ) 
           let at_k : (4 * k + c) / 4 ≡ k = omega arith in
           let at_c : (4 * k + c) % 4 ≡ c = omega arith in
           rw (lt-ltb p m l)
-          (ap (λ (v : ℕ). v % 256) (d.places refl (4 * k + c) (omega arith) ∙ rw (at_k, at_c) (from_decoder k c w)) ∙ mod-eq_of_lt (is_small k c h w))
+          (ap (λ (v : ℕ). v % 256) (d.places (4 * k + c) (omega arith) ∙ rw (at_k, at_c) (from_decoder k c w)) ∙ mod-eq_of_lt (is_small k c h w))
       go (no l) = rw (le-ltb p m (omega arith)) refl
 
   pub bytes_are : list_of (stored_byte (degree n + 1) m coefficients) 32 ≡ list_of (byte_at n m received) 32
@@ -150,31 +150,17 @@ pub points_in_same : (own : ℕ) (mine other : List ℕ) (w : ℕ) (inbox : List
 unfolding points_in
 points_in_same own mine other w inbox h = fun_ext (λ k. fun_ext (λ j. ap read_point (heard_same own mine w inbox other j k (h k))))
 
-pub decodes_told : (n m own : ℕ) (speaks : Bool) (kept mine : List ℕ) (w : ℕ) (inbox : List ℕ) (found : Bool) (coefficients : List ℕ) → mine ≡ silenced speaks kept
-    → Decodes n m (points_in own mine w inbox) found coefficients → Decodes n m (points_in own (spoken speaks kept) w inbox) found coefficients
-decodes_told n m own speaks kept mine w inbox found coefficients e d =
-    subst (λ (R : ℕ → ℕ → ℕ). Decodes n m R found coefficients) (points_in_same own mine (spoken speaks kept) w inbox (λ k. rw e (said_silenced speaks kept k))) d
+pub decodes_told : (n m own : ℕ) (speaks : Bool) (kept mine : List ℕ) (w : ℕ) (inbox : List ℕ) (found : Option (List ℕ)) → mine ≡ silenced speaks kept
+    → Decodes n m (points_in own mine w inbox) found → Decodes n m (points_in own (spoken speaks kept) w inbox) found
+decodes_told n m own speaks kept mine w inbox found e d =
+    subst (λ (R : ℕ → ℕ → ℕ). Decodes n m R found) (points_in_same own mine (spoken speaks kept) w inbox (λ k. rw e (said_silenced speaks kept k))) d
 
-module _ (n m own : ℕ) (speaks : Bool) (kept inbox : List ℕ) (r : ℕ) (e : r ≡ round_refusal n m own (length inbox)) where
-  pub disseminated_refused : (r ≡ 0 → ⊥) → record { refusal = r; found = false; bytes = replicate 32 0 } ≡ disseminated n m own speaks kept inbox
-  unfolding disseminated refused_with
-  disseminated_refused h = rw (← e, ne_eqb r 0 h) refl
+module _ (n m : ℕ) (received : ℕ → ℕ → ℕ) where
+  pub record_none : Decodes n m received None → record_in None ≡ record_of n m received
+  unfolding record_of
+  record_none d = rw d refl
 
-  pub disseminated_none : (coefficients : List ℕ) (found : Bool) → r ≡ 0 → Decodes n m (points_in own (spoken speaks kept) (blocks n m) inbox) found coefficients → found ≡ false
-      → record { refusal = 0; found = false; bytes = replicate 32 0 } ≡ disseminated n m own speaks kept inbox
-  unfolding disseminated answer_of record_of
-  disseminated_none coefficients found z d f = rw (← e, z, sym d.tells ∙ f) refl
-
-  pub disseminated_some : (coefficients bytes : List ℕ) (found : Bool) → r ≡ 0 → Decodes n m (points_in own (spoken speaks kept) (blocks n m) inbox) found coefficients → found ≡ true
-      → bytes ≡ list_of (stored_byte (degree n + 1) m coefficients) 32
-      → record { refusal = 0; found = true; bytes = bytes } ≡ disseminated n m own speaks kept inbox
-  unfolding disseminated answer_of record_of
-  disseminated_some coefficients bytes found z d f b =
-      let range = (accepted n m own (messages_accepted _ _ _ _ (sym e ∙ z)).0).range in
-      rw (← e, z, sym d.tells ∙ f, b) (ap (λ (l : List ℕ). record { refusal = 0; found = true; bytes = l }) (bytes_are n m (points_in own (spoken speaks kept) (blocks n m) inbox) coefficients range (rw f at d)))
-
--- what it answers where it is not refused
-pub disseminated_answer : (n m own : ℕ) (speaks : Bool) (kept inbox : List ℕ) → round_refusal n m own (length inbox) ≡ 0
-    → disseminated n m own speaks kept inbox ≡ answer_of (record_of n m (points_in own (spoken speaks kept) (blocks n m) inbox))
-unfolding disseminated
-disseminated_answer n m own speaks kept inbox e = rw e refl
+  pub record_some : (coefficients bytes : List ℕ) → InRange n m → Decodes n m received (Some coefficients)
+      → bytes ≡ list_of (stored_byte (degree n + 1) m coefficients) 32 → record_in (Some bytes) ≡ record_of n m received
+  unfolding record_of
+  record_some coefficients bytes range d b = rw (d.each, b, bytes_are n m received coefficients range d) refl

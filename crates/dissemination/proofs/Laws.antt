@@ -5,7 +5,7 @@ use Rattle.std.proofs.Common.{sym, ◌∙◌, arith, ext_get_or, get_or-take, le
 use Rattle.std.proofs.Math.Bool.{cond}
 use Rattle.std.proofs.Math.Option.{Option, none, some}
 use Prim.Native.Nat.{ℕ, zero, suc, ◌+◌, ◌-◌, ◌*◌, ◌≤◌, ◌<◌}
-use borrow.Author.Tests.{lt-ltb, le-ltb, ne_eqb}
+use borrow.Author.Tests.{lt-ltb, le-ltb}
 use Rattle.lists.specs.Lists.{all, list_of, rows_of}
 use Rattle.lists.specs.Entries.{length_list_of, get_d_list_of, get_d_within, list_of_same}
 use Rattle.lists.specs.Rows.{row_fits, rows_of_same}
@@ -17,7 +17,7 @@ use Rattle.messages.proofs.Laws.{said_laid, from_place, from_heard, heard_same}
 use Rattle.codeword.specs.Codeword.{values, codewords, across, written_across}
 use Rattle.codeword.specs.Apart.{length_values}
 use Rattle.codeword.specs.Words.{across_is, across_written}
-use Rattle.dissemination.specs.Dissemination.{spoken, points_in, point_at, points, points_to_all, kept_point, kept_at, kept_points, is_block, byte_at, record_of, round_refusal, kept}
+use Rattle.dissemination.specs.Dissemination.{spoken, points_in, point_at, points, points_to_all, kept_point, kept_at, kept_points, is_block, byte_at, record_of}
 use Rattle.dissemination.proofs.Kept.{kept_same, kept_unread, kept_reads}
 use Rattle.dissemination.specs.Laws.{silenced, read_at, heard_of, kept_from}
 
@@ -118,21 +118,6 @@ kept_are n m own speaks bytes inbox b mine e f =
     ap (λ (p : ℕ). cond (ltb k (blocks n m)) p blank)
     (kept_same n (points_in own mine (blocks n m) inbox k) (points_in own (points n m speaks bytes own) (blocks n m) inbox k) (λ j _ _.
     ap read_point (heard_same own mine (blocks n m) inbox (points n m speaks bytes own) j k (f k))))))
-
-module _ (n m own : ℕ) (speaks : Bool) (bytes inbox : List ℕ) (r : ℕ) (e : r ≡ round_refusal n m own (length inbox)) where
-  pub kept_refused : (r ≡ 0 → ⊥) → record { refusal = r; points = replicate 32 blank } ≡ kept n m own speaks bytes inbox
-  unfolding kept
-  kept_refused h = rw (← e, ne_eqb r 0 h) refl
-
-  pub kept_done : (all : List ℕ) → r ≡ 0 → all ≡ kept_points n m own speaks bytes inbox → record { refusal = 0; points = all } ≡ kept n m own speaks bytes inbox
-  unfolding kept
-  kept_done all z f = rw (← e, z, f) refl
-
--- what it answers where it is not refused
-pub kept_points_lem : (n m own : ℕ) (speaks : Bool) (bytes inbox : List ℕ) → round_refusal n m own (length inbox) ≡ 0
-    → (kept n m own speaks bytes inbox).points ≡ kept_points n m own speaks bytes inbox
-unfolding kept
-kept_points_lem n m own speaks bytes inbox e = rw e refl
 
 -- THE RANGES OF WHAT A COLUMN KEEPS
 

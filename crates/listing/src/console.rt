@@ -4,7 +4,7 @@ ghost use Rattle.std.specs.Prelude.{OnOk, IfSome};
 ghost use Rattle.std.specs.Io.KnownBytes.{Appends};
 ghost use Rattle.listing.specs.Listing.{listing_of};
 
-use super::{ROOM, of_input};
+use super::{Printed, ROOM, of_input};
 use protocols::Protocol;
 use std::io;
 use std::io::{Read, Write};
@@ -16,8 +16,6 @@ pub fn list<R: Read, W: Write>(protocol: Protocol, input: &mut R, output: &mut W
 {
     let mut room = [0u8; ROOM];
     let came = streams::fill(input, &mut room)?;
-    let printed = of_input(protocol, &room, came);
-    let text = printed.bytes;
-    let len = printed.len;
-    output.write_all(&text[..len])
+    let Printed { bytes, len } = of_input(protocol, &room, came);
+    output.write_all(&bytes[..len])
 }

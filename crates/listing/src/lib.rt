@@ -7,11 +7,11 @@ pub mod numbers;
 mod text;
 
 ghost use Rattle.std.specs.Prelude.{◌≡◌, List, ℕ, min, length, take};
-ghost use Rattle.listing.specs.Listing.{listing, listing_of, shown};
+ghost use Rattle.listing.specs.Listing.{listing_of, shown};
 ghost use Rattle.listing.specs.Input.{Starts, printed_of};
 
 use protocols::Protocol;
-use wall_run::Outcomes;
+use text::Text;
 
 // What a program reads of its input: one byte more than the longest sheet has, so that a longer input is seen to be longer.
 pub const ROOM: usize = 42566;
@@ -26,18 +26,6 @@ pub struct Printed {
     pub len: usize,
 }
 
-// The listing of a wall of n columns and records of m bytes, of what its run came to.
-fn write_outcomes(protocol: Protocol, n: u8, m: u8, o: Outcomes, out: &mut [u8]) -> usize
-    ensures { (result ≡ min (length (listing protocol n m o)) (length out.old)) × (out.new ≡ shown (listing protocol n m o) out.old) }
-{
-    let why = o.refusal;
-    if why == 0 {
-        let at = lines::put_sizes(out, 0, protocol, n, m);
-        return lines::put_columns(out, at, n, m, o);
-    }
-    lines::put_refused(out, 0, why)
-}
-
 // Runs the wall that a sheet describes and writes its listing to the front of the slice, as far as there is room: answers how many bytes of
 // the slice hold it. A slice of 3,200 bytes holds every listing whole.
 pub fn write(protocol: Protocol, sheet: &[u8], out: &mut [u8]) -> usize
@@ -45,13 +33,10 @@ pub fn write(protocol: Protocol, sheet: &[u8], out: &mut [u8]) -> usize
 {
     let n = sheet::columns(sheet);
     let m = sheet::bytes(sheet);
-    write_outcomes(
-        protocol,
-        n,
-        m,
-        wall_run::outcomes_of(protocol, sheet, n as usize),
-        out,
-    )
+    let came = wall_run::outcomes_of(protocol, sheet, n as usize);
+    let mut text = Text { out, at: 0 };
+    text.put_listing(protocol, n, m, came);
+    text.at
 }
 
 // The listing of the first `came` bytes of a slice, or of all of it where it has no more.
@@ -73,8 +58,5 @@ pub fn of_input(protocol: Protocol, room: &[u8; ROOM], came: usize) -> Printed
 {
     let mut bytes = [0u8; MOST];
     let len = write_part(protocol, room, came, &mut bytes);
-    Printed {
-        bytes: bytes,
-        len: len,
-    }
+    Printed { bytes, len }
 }

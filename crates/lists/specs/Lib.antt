@@ -6,3 +6,4 @@ pub mod Entries
 pub mod Rows
 pub mod Count
 pub mod Loops
+pub mod Library

@@ -1,4 +1,4 @@
--- A pair as the code holds it: 64 numbers below 257.
+-- A run as the code holds it, and what it holds: 64 numbers below 257 a pair, and weights that fit 16 bits.
 use Rattle.std.specs.Prelude.{Bool, true, false, cond, ◌≡◌, List, ℕ, zero, suc, ◌+◌, ◌-◌, ◌*◌, ◌%◌, ◌≤◌, ◌<◌, eqb, leb, ltb, length, get_or}
 use Rattle.std.proofs.Common.{sym, ◌∙◌, mod-lt, arith, lit<}
 use Rattle.std.proofs.Math.Path.{ap, ap₂}
@@ -8,13 +8,13 @@ use Rattle.lists.specs.Lists.{Below, list_of}
 use Rattle.lists.specs.Tests.{either_lt}
 use Rattle.lists.specs.Entries.{length_list_of, below_list_of}
 use Rattle.field.specs.Field.{subtract, multiply}
-use Rattle.locator.specs.declared.Weights.{Weights}
+use Rattle.locator.specs.declared.Pair.{Pair}
 use Rattle.messages.specs.Messages.{said as point_at}
 use Rattle.locator.specs.Locator.{discrepancy, Run, first_at, second_at, start, mixed_at, cleared, raised_at, raised, leads, first_leads, second_leads, turn, run, lighter, located}
 
 -- a run as the code holds it
-abbrev pub run_of : List ℕ → List ℕ → Weights → Run
-run_of a b w = record { first = a; second = b; first_weight = w.first; second_weight = w.second }
+abbrev pub run_of : Pair → Pair → Run
+run_of a b = record { first = a.numbers; second = b.numbers; first_weight = a.weight; second_weight = b.weight }
 
 pub record Held (l : List ℕ) : Type 0 where
   pub size : length l ≡ 64
@@ -92,45 +92,41 @@ module _ (s : Run) (y j : ℕ) where
   turn_blank h = simp (le-leb 257 y h)
 
   module _ (point : y < 257) where
-    pub turn_first : (a b : List ℕ) → leads (discrepancy s.first j) (discrepancy s.second j) s.first_weight s.second_weight ≡ true
-        → a ≡ raised (j + 1) s.first → b ≡ cleared j s.second s.first
-        → ◌≡◌ {A = Run} (record { first = a; second = b; first_weight = s.first_weight + 1; second_weight = s.second_weight }) (turn s y j)
-    unfolding turn first_leads
-    turn_first a b l ea eb = rw (lt-leb 257 y point, l, ea, eb)
+    pub turn_first : leads (discrepancy s.first j) (discrepancy s.second j) s.first_weight s.second_weight ≡ true → first_leads s j ≡ turn s y j
+    unfolding turn
+    turn_first l = rw (lt-leb 257 y point, l)
 
     module _ (left : leads (discrepancy s.first j) (discrepancy s.second j) s.first_weight s.second_weight ≡ false) where
       pub turn_none : discrepancy s.second j ≡ 0 → s ≡ turn s y j
       unfolding turn
       turn_none z = rw (lt-leb 257 y point, left, eq-eqb (discrepancy s.second j) 0 z)
 
-      pub turn_second : (a b : List ℕ) → (discrepancy s.second j ≡ 0 → ⊥)
-          → a ≡ cleared j s.first s.second → b ≡ raised (j + 1) s.second
-          → ◌≡◌ {A = Run} (record { first = a; second = b; first_weight = s.first_weight; second_weight = s.second_weight + 1 }) (turn s y j)
-      unfolding turn second_leads
-      turn_second a b z ea eb = rw (lt-leb 257 y point, left, ne_eqb (discrepancy s.second j) 0 z, ea, eb)
+      pub turn_second : (discrepancy s.second j ≡ 0 → ⊥) → second_leads s j ≡ turn s y j
+      unfolding turn
+      turn_second z = rw (lt-leb 257 y point, left, ne_eqb (discrepancy s.second j) 0 z)
 
 -- THE LOOP OVER THE PLACES: what the code holds is the run after the first j of them
 
-pub record Running (weight : ℕ) (points a b : List ℕ) (w : Weights) (j : ℕ) : Type 0 where
+pub record Running (weight : ℕ) (points : List ℕ) (a b : Pair) (j : ℕ) : Type 0 where
   pub within : j ≤ 32
-  pub holds : run_of a b w ≡ run weight points j
+  pub holds : run_of a b ≡ run weight points j
 
 pub running_none : (weight : ℕ) (points a b : List ℕ) → a ≡ list_of first_at 64 → b ≡ list_of (second_at points) 64
-    → Running weight points a b (record { first = 0; second = weight }) 0
+    → Running weight points (record { numbers = a; weight = 0 }) (record { numbers = b; weight = weight }) 0
 unfolding run start
 running_none weight points a b ea eb = record { within = omega arith; holds = rw (ea, eb) }
 
-module _ (weight : ℕ) (points a b : List ℕ) (w : Weights) (j : ℕ) (r : Running weight points a b w j) where
-  pub running_more : (a' b' : List ℕ) (w' : Weights) (y : ℕ) → j < 32 → y ≡ point_at points j → run_of a' b' w' ≡ turn (run_of a b w) y j
-      → Running weight points a' b' w' (j + 1)
+module _ (weight : ℕ) (points : List ℕ) (a b : Pair) (j : ℕ) (r : Running weight points a b j) where
+  pub running_more : (a' b' : Pair) (y : ℕ) → j < 32 → y ≡ point_at points j → run_of a' b' ≡ turn (run_of a b) y j
+      → Running weight points a' b' (j + 1)
   unfolding run
-  running_more a' b' w' y h e t =
+  running_more a' b' y h e t =
       record { within = omega arith; holds = rw add-one (t ∙ ap₂ {C = Run} (λ s z. turn s z j) r.holds e) }
 
-  pub running_held : HeldRun (run_of a b w) (weight + j)
+  pub running_held : HeldRun (run_of a b) (weight + j)
   running_held = rw r.holds (held_run weight points j)
 
-  pub running_done : 32 ≤ j → located weight points ≡ cond (leb w.first w.second) a b
+  pub running_done : 32 ≤ j → located weight points ≡ cond (leb a.weight b.weight) a.numbers b.numbers
   unfolding located
   running_done h =
       let e : 32 ≡ j = omega (arith, r.within) in

@@ -5,37 +5,32 @@
 
 ghost use Rattle.std.specs.Prelude.{◌≡◌, ◌+◌, ◌%◌, ◌<◌};
 ghost use Rattle.lists.specs.Lists.{list_of};
-ghost use Rattle.locator.specs.Held.{Held, run_of};
+ghost use Rattle.locator.specs.Held.{run_of};
 ghost use Rattle.field.specs.Field.{add, multiply};
-ghost use Rattle.locator.specs.Locator.{first_at, second_at, mixed_at, cleared, raised, leads as leads_of, turn as turn_of, located};
+ghost use Rattle.locator.specs.Locator.{discrepancy, first_at, second_at, mixed_at, cleared, raised, leads as leads_of, turn as turn_of, located};
 
 use field::Field;
+use std::array;
 
-// How heavy the two pairs are.
+// A pair by its 64 numbers, and how heavy it is.
 #[derive(Clone, Copy)]
-struct Weights {
-    first: u16,
-    second: u16,
+struct Pair {
+    numbers: [u16; 64],
+    weight: u16,
 }
 
 // A number of the first pair at the start, e = 0 and q = 1.
+#[tactic(auto, unfolding(crate::specs::Locator::first_at))]
 fn first_at(i: usize) -> u16
     ensures { result ≡ first_at i }
 {
-    if i < 32 {
-        return 0;
-    }
-    1
+    if i < 32 { 0 } else { 1 }
 }
 
 fn start_first() -> [u16; 64]
     ensures { result ≡ list_of first_at 64 }
 {
-    let mut pair = [0u16; 64];
-    for i in 0..64 {
-        pair[i] = first_at(i);
-    }
-    pair
+    array::from_fn(|i| first_at(i))
 }
 
 // A number of the second pair at the start, e = 1 and q = 0.
@@ -45,29 +40,13 @@ fn second_at(points: &[u16], i: usize) -> u16
     if i < 32 {
         return 1;
     }
-    let negated = Field::subtract(Field(0), Field(messages::value(points, i - 32)));
-    negated.0
+    Field::subtract(Field(0), Field(messages::value(points, i - 32))).0
 }
 
 fn start_second(points: &[u16]) -> [u16; 64]
     ensures { result ≡ list_of (second_at points.now) 64 }
 {
-    let mut pair = [0u16; 64];
-    for i in 0..64 {
-        pair[i] = second_at(points, i);
-    }
-    pair
-}
-
-// a times the other pair plus b times the leading one.
-fn mix(other: &mut [u16; 64], a: u16, b: u16, lead: &[u16; 64])
-    requires { Held other.old × Held lead.now }
-    ensures { other.new ≡ list_of (mixed_at a b other.old lead.now) 64 }
-{
-    for i in 0..64 {
-        let mixed = Field::add_products(Field(a), Field(other[i]), Field(b), Field(lead[i]));
-        other[i] = mixed.0;
-    }
+    array::from_fn(|i| second_at(points, i))
 }
 
 // v times the place of index i less another place, of which `minus` is the negative. The second product is none: the sum of two is what the machine
@@ -76,95 +55,102 @@ fn raised_at(minus: u16, i: usize, v: u16) -> u16
     ensures { result ≡ multiply (add (i % 32 + 1) minus) v }
 {
     let factor = Field::add(Field((i % 32 + 1) as u16), Field(minus));
-    let product = Field::add_products(factor, Field(v), Field(0), Field(0));
-    product.0
+    Field::add_products(factor, Field(v), Field(0), Field(0)).0
 }
 
-// The leading pair times (x - place).
-fn raise(lead: &mut [u16; 64], place: u16)
-    requires { Held lead.old }
-    ensures { lead.new ≡ raised place lead.old }
+// a times these numbers plus b times those of the leading pair. By index: two arrays are read in step, eight places at a time.
+fn mix(numbers: &mut [u16; 64], a: u16, b: u16, lead: &[u16; 64])
+    ensures { numbers.new ≡ list_of (mixed_at a b numbers.old lead.now) 64 }
 {
-    let minus = Field::subtract(Field(0), Field(place));
     for i in 0..64 {
-        lead[i] = raised_at(minus.0, i, lead[i]);
+        numbers[i] = Field::add_products(Field(a), Field(numbers[i]), Field(b), Field(lead[i])).0;
     }
 }
 
-// The other pair, its discrepancy at index j taken away.
-fn clear(other: &mut [u16; 64], lead: &[u16; 64], j: usize)
-    requires { (j < 32) × Held other.old × Held lead.now }
-    ensures { other.new ≡ cleared j other.old lead.now }
+// The numbers times (x - place). By index, which says the place that a number belongs to.
+fn raise(numbers: &mut [u16; 64], place: u16)
+    ensures { numbers.new ≡ raised place numbers.old }
 {
-    let a = lead[32 + j];
-    let b = Field::subtract(Field(0), Field(other[32 + j]));
-    mix(other, a, b.0, lead);
+    let minus = Field::subtract(Field(0), Field(place));
+    for i in 0..64 {
+        numbers[i] = raised_at(minus.0, i, numbers[i]);
+    }
+}
+
+impl Pair {
+    // At index j, how far the pair is from fitting the point there.
+    fn discrepancy(&self, j: usize) -> u16
+        requires { j < 32 }
+        ensures { result ≡ discrepancy self.now.numbers j }
+    {
+        self.numbers[32 + j]
+    }
+
+    // The discrepancy at index j is taken away, with the help of the leading pair.
+    fn clear(&mut self, lead: &Pair, j: usize)
+        requires { j < 32 }
+        ensures { self.new ≡ record { numbers = cleared j self.old.numbers lead.now.numbers; weight = self.old.weight } }
+    {
+        let b = Field::subtract(Field(0), Field(self.discrepancy(j)));
+        mix(&mut self.numbers, lead.discrepancy(j), b.0, &lead.numbers);
+    }
+
+    // The pair times (x - place), which makes it heavier.
+    fn raise(&mut self, place: u16)
+        requires { self.old.weight < 1000 }
+        ensures { self.new ≡ record { numbers = raised place self.old.numbers; weight = self.old.weight + 1 } }
+    {
+        raise(&mut self.numbers, place);
+        self.weight += 1;
+    }
 }
 
 // Whether a pair with the discrepancy x and the weight v leads before one with y and w.
 fn leads(x: u16, y: u16, v: u16, w: u16) -> bool
     ensures { result ≡ leads_of x y v w }
 {
-    if x == 0 {
-        return false;
-    }
-    if y == 0 {
-        return true;
-    }
-    v <= w
+    x != 0 && (y == 0 || v <= w)
 }
 
 // Both pairs are made to fit the point y at index j.
-fn turn(first: &mut [u16; 64], second: &mut [u16; 64], w: Weights, y: u16, j: usize) -> Weights
-    requires { (j < 32) × (w.first < 1000) × (w.second < 1000) × Held first.old × Held second.old }
-    ensures { run_of first.new second.new result ≡ turn_of (run_of first.old second.old w) y j }
+fn turn(first: &mut Pair, second: &mut Pair, y: u16, j: usize)
+    requires { (j < 32) × (first.old.weight < 1000) × (second.old.weight < 1000) }
+    ensures { run_of first.new second.new ≡ turn_of (run_of first.old second.old) y j }
 {
     if Field::MODULUS <= y {
-        return w;
+        return;
     }
-    let x = first[32 + j];
-    let z = second[32 + j];
-    if leads(x, z, w.first, w.second) {
-        clear(second, first, j);
-        raise(first, j as u16 + 1);
-        return Weights {
-            first: w.first + 1,
-            second: w.second,
-        };
+    let x = first.discrepancy(j);
+    let z = second.discrepancy(j);
+    if leads(x, z, first.weight, second.weight) {
+        second.clear(first, j);
+        first.raise(j as u16 + 1);
+        return;
     }
     if z == 0 {
-        return w;
+        return;
     }
-    clear(first, second, j);
-    raise(second, j as u16 + 1);
-    Weights {
-        first: w.first,
-        second: w.second + 1,
-    }
+    first.clear(second, j);
+    second.raise(j as u16 + 1);
 }
 
-// The lighter pair after all places. `weight` is n - 2t - 1 for n points of which t may be wrong.
+// The lighter pair after all places, 32 however many points there are. `weight` is n - 2t - 1 for n points of which t may be wrong.
 pub fn locate(weight: u8, points: &[u16]) -> [u16; 64]
     ensures { result ≡ located weight points.now }
 {
-    let mut first = start_first();
-    let mut second = start_second(points);
-    let mut weights = Weights {
-        first: 0,
-        second: weight as u16,
+    let mut first = Pair {
+        numbers: start_first(),
+        weight: 0,
+    };
+    let mut second = Pair {
+        numbers: start_second(points),
+        weight: weight as u16,
     };
     for j in 0..32 {
-        let next = turn(
-            &mut first,
-            &mut second,
-            weights,
-            messages::value(points, j),
-            j,
-        );
-        weights = next;
+        turn(&mut first, &mut second, messages::value(points, j), j);
     }
-    if weights.first <= weights.second {
-        return first;
+    if first.weight <= second.weight {
+        return first.numbers;
     }
-    second
+    second.numbers
 }

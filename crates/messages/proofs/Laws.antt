@@ -1,5 +1,5 @@
 -- The laws of messages: legal values are read as they are, and a message is found again where it was written.
-use Rattle.std.specs.Prelude.{◌≡◌, Bool, true, false, ◌⊎◌, List, ◌++◌, ℕ, ◌+◌, ◌-◌, ◌*◌, ◌≤◌, ◌<◌, T, eqb, ltb, length, drop, set}
+use Rattle.std.specs.Prelude.{◌≡◌, Bool, true, false, ◌⊎◌, List, ◌++◌, ℕ, ◌+◌, ◌-◌, ◌*◌, ◌≤◌, ◌<◌, T, eqb, ltb, leb, length, take, drop, set, slice_range}
 use Rattle.std.proofs.Math.Path.{refl}
 use Rattle.std.proofs.Common.{sym, ap, ◌∙◌, inl, inr, eqb→eq}
 use Rattle.std.proofs.Math.Bool.{cond}
@@ -61,6 +61,10 @@ same_point v p h = go (dec_lt v 257)
 
 -- HOW MESSAGES LIE
 
+-- the front of a list, as `get(..n)` gives it
+pub front : {A : Type 0} (l : List A) (n : ℕ) → slice_range l 0 n ≡ take n l
+front l n = let e : n - 0 ≡ n = omega arith in rw e refl
+
 -- column i + 1's value lies at place i
 pub from_place : (values : List ℕ) (i : ℕ) → from values (i + 1) ≡ said values i
 unfolding from said
@@ -104,6 +108,10 @@ module _ (why n w len : ℕ) where
   unfolding refusal
   refused_before h = simp (ne_eqb why 0 h)
 
+  -- what is refused behind a call that was not
+  pub refused_behind : 0 ≡ why → refusal why n w len ≡ refusal 0 n w len
+  refused_behind e = ap (λ (q : ℕ). refusal q n w len) (sym e)
+
   pub refused_length : why ≡ 0 → (len ≡ n * w → ⊥) → refusal why n w len ≡ 4
   unfolding refusal
   refused_length e h = simp (eq-eqb why 0 e, ne_eqb len (n * w) h)
@@ -111,6 +119,10 @@ module _ (why n w len : ℕ) where
   pub not_refused : why ≡ 0 → len ≡ n * w → refusal why n w len ≡ 0
   unfolding refusal
   not_refused e h = simp (eq-eqb why 0 e, eq-eqb len (n * w) h)
+
+-- a part that has room is written to
+pub has_room : (w len : ℕ) → w ≤ len → ◌≡◌ {A = ℕ} (cond (leb w len) 0 4) 0
+has_room w len h = simp (le-leb w len h)
 
 -- a call that is not refused: the slice is as long as it has to be
 pub accepted : (why n w len : ℕ) → refusal why n w len ≡ 0 → (why ≡ 0) × (len ≡ n * w)

@@ -109,6 +109,20 @@ module _ (n q : ℕ) where
       let i : q ≡ 3 * (faults n + 1) + suc (q - 3 * (faults n + 1) - 1) = omega arith in
       past_three ∙ ap later i ∙ behind_phases 1 (faults n + 1) (suc (q - 3 * (faults n + 1) - 1)) (Points ∷ KeptPoints ∷ []) ∙ last (q - 3 * (faults n + 1) - 1)
 
+-- the same by the round's number: behind the first three, and from the last one on
+module _ (n round : ℕ) where
+  behind_three : 4 ≤ round → kind_in Agreement n round ≡ kind_in Agreement n (round - 4 + 4)
+  behind_three h = ap (kind_in Agreement n) (omega arith)
+
+  pub round_phase : 4 ≤ round → round + 1 < rounds_in Agreement n → kind_in Agreement n round ≡ get_or (phase ((round - 4) / 3 + 1)) ((round - 4) % 3) KeptPoints
+  round_phase h l = behind_three h ∙ kind_phase n (round - 4) (omega (arith, rounds_agreement n))
+
+  pub round_points : round + 1 ≡ rounds_in Agreement n → kind_in Agreement n round ≡ Points
+  round_points e = behind_three (omega (arith, rounds_agreement n)) ∙ kind_points n (round - 4) (omega (arith, rounds_agreement n))
+
+  pub round_kept : rounds_in Agreement n ≤ round → kind_in Agreement n round ≡ KeptPoints
+  round_kept l = behind_three (omega (arith, rounds_agreement n)) ∙ kind_kept n (round - 4) (omega (arith, rounds_agreement n))
+
 -- THE KINDS OF A POSTING'S ROUNDS
 
 pub posting_last : (s n round : ℕ) → 6 ≤ round → kind_in (Posting s) n round ≡ KeptPoints

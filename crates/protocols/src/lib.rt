@@ -30,6 +30,7 @@ pub enum Kind {
 }
 
 // The blocks of a record, as values are counted.
+#[tactic(auto, using(sizes::proofs::Laws::blocks_le))]
 fn blocks(n: u8, m: u8) -> u16
     ensures { (result ≡ blocks_of n m) × (result ≤ 255) }
 {
@@ -37,19 +38,20 @@ fn blocks(n: u8, m: u8) -> u16
 }
 
 // The values of a message in a round of the kind.
+#[tactic(auto, unfolding(crate::specs::Protocols::width))]
 pub fn width(kind: Kind, n: u8, m: u8) -> u16
     ensures { result ≡ width_of n m kind }
 {
     match kind {
         Kind::Exchange => 2 * blocks(n, m),
-        Kind::Points => blocks(n, m),
-        Kind::KeptPoints => blocks(n, m),
+        Kind::Points | Kind::KeptPoints => blocks(n, m),
         Kind::Post(_) => m as u16,
         _ => 1,
     }
 }
 
 // The rounds of a run.
+#[tactic(auto, using(sizes::proofs::Laws::faults_le, crate::proofs::Laws::rounds_agreement, crate::proofs::Laws::rounds_posting))]
 pub fn rounds_in(protocol: Protocol, n: u8) -> usize
     ensures { result ≡ rounds_in protocol n }
 {
@@ -60,70 +62,47 @@ pub fn rounds_in(protocol: Protocol, n: u8) -> usize
 }
 
 // The round of a phase that follows q others of all phases.
+#[tactic(auto, unfolding(crate::specs::Protocols::phase))]
 fn king_round(q: u8) -> Kind
     ensures { result ≡ get_or (phase (q / 3 + 1)) (q % 3) KeptPoints }
 {
-    if q % 3 == 0 {
-        return Kind::Votes;
+    match q % 3 {
+        0 => Kind::Votes,
+        1 => Kind::Proposals,
+        _ => Kind::King(q / 3 + 1),
     }
-    if q % 3 == 1 {
-        return Kind::Proposals;
-    }
-    Kind::King(q / 3 + 1)
-}
-
-// The round of an agreement that follows the first three and q others, where a run has `last` rounds.
-fn later_round(n: u8, last: usize, q: u8) -> Kind
-    requires { last ≡ rounds_in Agreement n }
-    ensures { result ≡ kind_in Agreement n (q + 4) }
-{
-    let next = q as usize + 5;
-    if next < last {
-        return king_round(q);
-    }
-    if next == last {
-        return Kind::Points;
-    }
-    Kind::KeptPoints
 }
 
 // The kind of a round of an agreement, where a run has `last` rounds.
+#[tactic(auto, unfolding(crate::specs::Protocols::kind_in, crate::specs::Protocols::kinds), using(crate::proofs::Laws::round_phase, crate::proofs::Laws::round_points, crate::proofs::Laws::round_kept))]
 fn agreement_kind(n: u8, last: usize, round: u8) -> Kind
     requires { last ≡ rounds_in Agreement n }
     ensures { result ≡ kind_in Agreement n round }
 {
-    if round <= 1 {
-        return Kind::Exchange;
+    let next = round as usize + 1;
+    match round {
+        0..=1 => Kind::Exchange,
+        2 => Kind::FirstReport,
+        3 => Kind::SecondReport,
+        _ if next < last => king_round(round - 4),
+        _ if next == last => Kind::Points,
+        _ => Kind::KeptPoints,
     }
-    if round == 2 {
-        return Kind::FirstReport;
-    }
-    if round == 3 {
-        return Kind::SecondReport;
-    }
-    later_round(n, last, round - 4)
 }
 
 // The kind of a round of a posting.
+#[tactic(auto, unfolding(crate::specs::Protocols::kind_in, crate::specs::Protocols::kinds))]
 fn posting_kind(s: u8, n: u8, round: u8) -> Kind
     ensures { result ≡ kind_in (Posting s) n round }
 {
-    if round <= 1 {
-        return Kind::Post(s);
+    match round {
+        0..=1 => Kind::Post(s),
+        2 => Kind::Exchange,
+        3 => Kind::FirstReport,
+        4 => Kind::SecondReport,
+        5 => Kind::Points,
+        _ => Kind::KeptPoints,
     }
-    if round == 2 {
-        return Kind::Exchange;
-    }
-    if round == 3 {
-        return Kind::FirstReport;
-    }
-    if round == 4 {
-        return Kind::SecondReport;
-    }
-    if round == 5 {
-        return Kind::Points;
-    }
-    Kind::KeptPoints
 }
 
 // The kind of a round of a run of `last` rounds: whoever asks has counted them, and t is found once.
@@ -145,6 +124,7 @@ pub fn kind_in(protocol: Protocol, n: u8, round: u8) -> Kind
 }
 
 // The values of one message in a round of a run; none in a round that it does not have.
+#[tactic(auto, unfolding(crate::specs::Protocols::values_in))]
 pub fn values_in(protocol: Protocol, n: u8, m: u8, round: u8) -> u16
     ensures { result ≡ values_in protocol n m round }
 {
@@ -156,6 +136,7 @@ pub fn values_in(protocol: Protocol, n: u8, m: u8, round: u8) -> u16
 }
 
 // The values of all rounds of a run that an unsound column sends one receiver.
+#[tactic(auto, using(sizes::proofs::Laws::faults_le, sizes::proofs::Laws::blocks_le, crate::proofs::Laws::line_agreement, crate::proofs::Laws::line_posting))]
 pub fn line_in(protocol: Protocol, n: u8, m: u8) -> usize
     ensures { result ≡ line_in protocol n m }
 {
@@ -169,56 +150,46 @@ pub fn line_in(protocol: Protocol, n: u8, m: u8) -> usize
 // How many protocols there are.
 pub const PROTOCOLS: usize = 2;
 
-// What a protocol is beside its rounds: its number, as a state's bytes have it; whether one column posts its record to all others; and the
-// column number that stands beside the sizes, the poster's or, without one, column 1, which is never refused.
-#[derive(Clone, Copy)]
-struct Label {
-    number: u8,
-    posts: bool,
-    beside: u8,
-}
+// WHAT A PROTOCOL IS BESIDE ITS ROUNDS
 
-fn named(protocol: Protocol) -> Label
-    ensures { (result.number ≡ number_of protocol) × (result.posts ≡ posts_of protocol) × (result.beside ≡ beside_of protocol) }
-{
-    match protocol {
-        Protocol::Agreement => Label {
-            number: 0,
-            posts: false,
-            beside: 1,
-        },
-        Protocol::Posting(s) => Label {
-            number: 1,
-            posts: true,
-            beside: s,
-        },
-    }
-}
-
+// Its number, as a state's bytes have it.
+#[tactic(auto, unfolding(crate::specs::Protocols::number_of))]
 pub fn number_of(protocol: Protocol) -> u8
     ensures { result ≡ number_of protocol }
 {
-    named(protocol).number
+    match protocol {
+        Protocol::Agreement => 0,
+        Protocol::Posting(_) => 1,
+    }
 }
 
+// Whether one column posts its record to all others.
+#[tactic(auto, unfolding(crate::specs::Protocols::posts))]
 pub fn posts(protocol: Protocol) -> bool
     ensures { result ≡ posts_of protocol }
 {
-    named(protocol).posts
+    matches!(protocol, Protocol::Posting(_))
 }
 
+// The column number that stands beside the sizes: the poster's or, without one, column 1, which is never refused.
+#[tactic(auto, unfolding(crate::specs::Protocols::beside))]
 pub fn beside(protocol: Protocol) -> u8
     ensures { result ≡ beside_of protocol }
 {
-    named(protocol).beside
+    match protocol {
+        Protocol::Agreement => 1,
+        Protocol::Posting(s) => s,
+    }
 }
 
 // The protocol of this number, with the poster's number where one posts.
+#[tactic(auto, unfolding(crate::specs::Protocols::protocol_of))]
 pub fn protocol_of(runs: u8, poster: u8) -> Protocol
     ensures { result ≡ protocol_of runs poster }
 {
     if runs == 0 {
-        return Protocol::Agreement;
+        Protocol::Agreement
+    } else {
+        Protocol::Posting(poster)
     }
-    Protocol::Posting(poster)
 }

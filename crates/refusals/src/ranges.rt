@@ -10,56 +10,42 @@ ghost use Rattle.agreement.specs.Column.{stage_fits, byte_fits, flag_fits, point
 use agreement::{Column, Stage};
 use field::Field;
 
-// Whether a run of `last` rounds has the round.
-fn round_fits(last: usize, round: u8) -> bool
-    ensures { result ≡ not (outside 1 last round) }
-{
-    !sizes::outside(1, last, round as usize)
-}
-
+// Whether a run of `last` rounds has the stage's round.
+#[tactic(auto, unfolding(agreement::specs::Column::stage_fits))]
 fn stage_fits(last: usize, stage: Stage) -> bool
     ensures { result ≡ stage_fits last stage }
 {
     match stage {
-        Stage::Speak(round) => round_fits(last, round),
-        Stage::Listen(round) => round_fits(last, round),
+        Stage::Speak(round) | Stage::Listen(round) => !sizes::outside(1, last, round as usize),
         Stage::Ended(_) => true,
     }
 }
 
 // The own and the poster's number, each with the sizes.
+#[tactic(auto, unfolding(agreement::specs::Column::names_fit))]
 fn names_fit(column: Column) -> bool
     ensures { result ≡ names_fit column }
 {
-    if sizes::refusal(column.n, column.m, column.own) != 0 {
-        return false;
-    }
-    let protocol = column.protocol;
-    sizes::refusal(column.n, column.m, protocols::beside(protocol)) == 0
+    sizes::refusal(column.n, column.m, column.own).is_ok()
+        && sizes::refusal(column.n, column.m, protocols::beside(column.protocol)).is_ok()
 }
 
 // The numbers of a state.
+#[tactic(auto, unfolding(agreement::specs::Column::numbers_fit))]
 fn numbers_fit(column: Column) -> bool
     ensures { result ≡ numbers_fit column }
 {
-    if !names_fit(column) {
-        return false;
-    }
-    let protocol = column.protocol;
-    let stage = column.stage;
-    if !stage_fits(protocols::rounds_in(protocol, column.n), stage) {
-        return false;
-    }
-    if 3 <= column.grade {
-        return false;
-    }
-    if 2 <= column.vote {
-        return false;
-    }
-    messages::read_bit(column.proposal) == column.proposal
+    names_fit(column)
+        && stage_fits(
+            protocols::rounds_in(column.protocol, column.n),
+            column.stage,
+        )
+        && column.grade < 3
+        && column.vote < 2
+        && messages::read_bit(column.proposal) == column.proposal
 }
 
-// Past m a record has only zeros.
+// Past m a record has only zeros. By index, as below, and none left early: the machine tests eight at a time.
 fn bytes_fit(m: u8, bytes: [u8; 32]) -> bool
     requires { m ≤ 32 }
     ensures { result ≡ all (byte_fits m bytes) 32 }
@@ -87,13 +73,7 @@ fn flags_fit(n: u8, agreements: [bool; 31], reports: [bool; 31]) -> bool
 fn point_fits(b: usize, k: usize, v: u16) -> bool
     ensures { result ≡ eqb (read_point v) v && (ltb k b || eqb v blank) }
 {
-    if messages::read_point(v) != v {
-        return false;
-    }
-    if k < b {
-        return true;
-    }
-    v == Field::BLANK
+    messages::read_point(v) == v && (k < b || v == Field::BLANK)
 }
 
 fn points_fit(b: usize, kept: [u16; 32]) -> bool
@@ -121,36 +101,24 @@ fn are_blank(kept: [u16; 32]) -> bool
 fn kept_fit(b: usize, kept: [u16; 32]) -> bool
     ensures { result ≡ all (point_fits b kept) 32 }
 {
-    if are_blank(kept) {
-        return true;
-    }
-    points_fit(b, kept)
+    are_blank(kept) || points_fit(b, kept)
 }
 
 // The arrays of a state. None is left at the first entry out of its range: that would cost a branch at each.
+#[tactic(auto, unfolding(agreement::specs::Column::arrays_fit))]
 fn arrays_fit(column: Column) -> bool
     requires { InRange column.n column.m }
     ensures { result ≡ arrays_fit column }
 {
-    let bytes = column.bytes;
-    if !bytes_fit(column.m, bytes) {
-        return false;
-    }
-    let agreements = column.agreements;
-    let reports = column.reports;
-    if !flags_fit(column.n, agreements, reports) {
-        return false;
-    }
-    let kept = column.kept;
-    kept_fit(sizes::blocks(column.n, column.m), kept)
+    bytes_fit(column.m, column.bytes)
+        && flags_fit(column.n, column.agreements, column.reports)
+        && kept_fit(sizes::blocks(column.n, column.m), column.kept)
 }
 
 // Whether every part of the state is in its range.
+#[tactic(auto, unfolding(agreement::specs::Column::fits))]
 pub(super) fn fits(column: Column) -> bool
     ensures { result ≡ fits_of column }
 {
-    if !numbers_fit(column) {
-        return false;
-    }
-    arrays_fit(column)
+    numbers_fit(column) && arrays_fit(column)
 }

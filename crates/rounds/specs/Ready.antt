@@ -1,27 +1,29 @@
 -- What is known behind the refusals: the slice has the length of the round's messages, by the round's kind; so the building blocks refuse
 -- nothing either.
-use Rattle.std.specs.Prelude.{◌≡◌, List, ℕ, ◌*◌, eqb, length}
+use Rattle.std.specs.Prelude.{◌≡◌, List, ℕ, ◌*◌, eqb, Result, Ok, Err}
+use Rattle.std.specs.Result.{IsErrAnd}
 use Rattle.std.proofs.Math.Path.{refl}
 use Rattle.std.proofs.Common.{ap, ◌∙◌}
-use borrow.Author.Tests.{eq-eqb, ne_eqb}
+use borrow.Author.Tests.{ne_eqb}
 use Rattle.sizes.specs.Sizes.{blocks, refusal}
 use Rattle.sizes.proofs.Laws.{columns_of, first_column}
+use Rattle.sizes.specs.declared.numbers.Refusal.{Refusal}
+use Rattle.sizes.specs.Refusals.{number}
+use Rattle.sizes.proofs.Refusals.{some, handed_on}
 use Rattle.messages.specs.Messages.{to_all, to_all_refusal}
 use Rattle.messages.proofs.Laws.{to_all_same, not_refused, accepted}
 use Rattle.dispersal.specs.Dispersal.{exchange_refusal}
 use Rattle.dissemination.specs.Dissemination.{spoken, round_refusal as points_refusal}
 use Rattle.dissemination.specs.Laws.{silenced}
 use Rattle.dissemination.proofs.Laws.{said_silenced}
-use Rattle.agreement.specs.declared.Stage.{Stage}
 use Rattle.agreement.specs.declared.Column.{Column}
 use Rattle.protocols.specs.declared.Kind.{Kind}
 use Rattle.protocols.specs.declared.Kind.TheVariants.{Exchange, Post}
 use Rattle.protocols.specs.Protocols.{width}
-use Rattle.agreement.specs.declared.Answer.TheVariants.{Done, Refused}
-use Rattle.agreement.specs.declared.Answered.{Answered}
-use Rattle.agreement.specs.Rounds.{message, hears}
+use Rattle.agreement.specs.Answers.{answered_in}
+use Rattle.agreement.specs.Rounds.{message}
 use Rattle.agreement.specs.Calls.{answered, answer_of}
-use Rattle.rounds.specs.Rounds.{to_columns, round_refusal, heard_in}
+use Rattle.rounds.specs.Rounds.{to_columns, round_refusal}
 
 -- BEHIND THE REFUSALS
 
@@ -36,15 +38,17 @@ ready kind c len e =
     let a = accepted (refusal c.n c.m c.own) c.n (width c.n c.m kind) len e in
     record { sizes = a.0; full = a.1 }
 
--- what a column answers that listens, refused or not
-module _ (kind : Kind) (next : Stage) (c : Column) (inbox : List ℕ) (why : ℕ) (e : why ≡ round_refusal kind c (length inbox)) where
-  pub heard_refused : (why ≡ 0 → ⊥) → ◌≡◌ {A = Answered} (record { answer = Refused why; column = c }) (heard_in kind next c inbox)
-  unfolding heard_in answered answer_of
-  heard_refused h = rw (← e, ne_eqb why 0 h) refl
+-- what a call answers, refused or not
+module _ (before : Column) {w : ℕ} where
+  pub answered_refused : (why : Refusal) (r : Result Column Refusal) → IsErrAnd r (λ y. y ≡ why) → number why ≡ w → (done : Column) → answered_in r before ≡ answered w done before
+  unfolding answered answer_of
+  answered_refused why r h e done =
+      let p : answered_in r before ≡ answered_in (Err why) before = ap (λ (q : Result Column Refusal). answered_in q before) (handed_on why r h) in
+      p ∙ rw (← e, ne_eqb (number why) 0 (some why)) refl
 
-  pub heard_done : why ≡ 0 → (d : Column) → d ≡ hears kind next c inbox → ◌≡◌ {A = Answered} (record { answer = Done; column = d }) (heard_in kind next c inbox)
-  unfolding heard_in answered answer_of
-  heard_done z d is = rw (← e, eq-eqb why 0 z, is) refl
+  pub answered_done : 0 ≡ w → (d done : Column) → d ≡ done → answered_in (Ok d) before ≡ answered w done before
+  unfolding answered answer_of
+  answered_done e d done is = rw (← e, is) refl
 
 module _ (c : Column) (len : ℕ) where
   pub exchange_accepted : Ready Exchange c len → exchange_refusal c.n c.m c.own len ≡ 0

@@ -7,7 +7,7 @@ use Rattle.agreement.specs.declared.Stage.{Stage}
 use Rattle.agreement.specs.declared.Column.{Column}
 use Rattle.protocols.specs.declared.Kind.{Kind}
 use Rattle.protocols.specs.Protocols.{width}
-use Rattle.agreement.specs.declared.Answered.{Answered}
+use Rattle.agreement.specs.Answers.{Answered}
 use Rattle.agreement.specs.Rounds.{message, hears}
 use Rattle.agreement.specs.Calls.{answered}
 

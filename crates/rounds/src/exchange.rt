@@ -1,4 +1,6 @@
 // Round 1 of an agreement, round 2 of a posting: the exchange.
+#![tactic(auto, using(sizes::proofs::Refusals::there, sizes::proofs::Refusals::got, messages::proofs::Laws::if_done, crate::specs::Ready::exchange_accepted), unfolding(agreement::specs::Rounds::hears, crate::specs::Rounds::to_columns, protocols::specs::Protocols::width, agreement::specs::Rounds::message, dispersal::specs::Dispersal::exchanges))]
+
 ghost use Rattle.std.specs.Prelude.{◌≡◌, length};
 ghost use Rattle.protocols.specs.declared.Kind.TheVariants.{Exchange};
 ghost use Rattle.agreement.specs.Rounds.{hears};
@@ -12,8 +14,7 @@ pub(super) fn say(column: Column, out: &mut [u16])
     requires { Ready Exchange column (length out.old) }
     ensures { out.new ≡ to_columns Exchange column }
 {
-    let bytes = column.bytes;
-    dispersal::exchange::send(column.n, column.m, column.own, bytes, out);
+    dispersal::exchange::send(column.n, column.m, column.own, column.bytes, out).unwrap();
 }
 
 // Which columns the column agrees with.
@@ -21,11 +22,15 @@ pub(super) fn hear(column: Column, next: Stage, inbox: &[u16]) -> Column
     requires { Ready Exchange column (length inbox.now) }
     ensures { result ≡ hears Exchange next column inbox.now }
 {
-    let bytes = column.bytes;
-    let agreed = dispersal::exchange::agreements(column.n, column.m, column.own, bytes, inbox);
-    let flags = agreed.flags;
+    let agreements = dispersal::exchange::agreements(
+        column.n,
+        column.m,
+        column.own,
+        column.bytes,
+        inbox,
+    ).unwrap();
     Column {
-        agreements: flags,
+        agreements,
         stage: next,
         ..column
     }

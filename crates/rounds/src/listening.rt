@@ -8,6 +8,7 @@ use agreement::{Column, Stage};
 use protocols::Kind;
 
 // What the column has become after it listened in a round of the kind; it goes on to the stage `next`, unless the round ends the run.
+#[tactic(auto, unfolding(agreement::specs::Rounds::hears))]
 pub(super) fn hear(column: Column, kind: Kind, next: Stage, inbox: &[u16]) -> Column
     requires { Ready kind column (length inbox.now) }
     ensures { result ≡ hears kind next column inbox.now }

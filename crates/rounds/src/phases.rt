@@ -1,4 +1,6 @@
 // Rounds 4 to 3t + 6 of an agreement: the king rule, three rounds a phase.
+#![tactic(auto, unfolding(agreement::specs::Rounds::hears, agreement::specs::Rounds::received, agreement::specs::Rounds::message, agreement::specs::Rounds::king_said, agreement::specs::Rounds::resettled))]
+
 ghost use Rattle.std.specs.Prelude.{◌≡◌};
 ghost use Rattle.protocols.specs.declared.Kind.TheVariants.{Votes, Proposals, King};
 ghost use Rattle.agreement.specs.Rounds.{king_said, hears};
@@ -36,8 +38,8 @@ pub(super) fn hear_proposals(column: Column, next: Stage, inbox: &[u16]) -> Colu
 fn king_said(column: Column, king: u8, inbox: &[u16]) -> u16
     ensures { result ≡ king_said king column inbox.now }
 {
-    let mine = [king::word(king, column.own, column.vote)];
-    messages::heard(column.own, &mine, 1, inbox, king, 0)
+    let mine = king::word(king, column.own, column.vote);
+    messages::heard(column.own, &[mine], 1, inbox, king, 0)
 }
 
 // A vote that is not firm becomes the king's.

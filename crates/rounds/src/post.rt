@@ -1,4 +1,6 @@
 // Round 1 of a posting: the poster's record.
+#![tactic(auto, using(sizes::proofs::Refusals::there, messages::proofs::Laws::if_done, crate::specs::Ready::post_accepted, crate::specs::Ready::post_to_all), unfolding(agreement::specs::Rounds::hears, agreement::specs::Post::posted_by, agreement::specs::Post::sent_byte, agreement::specs::Post::posted_byte, agreement::specs::Post::taken_record, agreement::specs::Post::posted, messages::specs::Messages::said, messages::specs::Messages::read_byte, dissemination::specs::Laws::silenced))]
+
 ghost use Rattle.std.specs.Prelude.{◌≡◌, eqb, ltb, length};
 ghost use Rattle.lists.specs.Lists.{all};
 ghost use Rattle.messages.specs.Messages.{read_byte};
@@ -11,24 +13,7 @@ ghost use Rattle.rounds.specs.Ready.{Ready};
 
 use agreement::{Column, Stage};
 use field::Field;
-
-// A byte as a value.
-fn value(byte: u8) -> u16
-    ensures { result ≡ byte }
-{
-    byte as u16
-}
-
-// A record as values.
-fn values(bytes: [u8; 32]) -> [u16; 32]
-    ensures { result ≡ bytes }
-{
-    let mut all = [0u16; 32];
-    for p in 0..32 {
-        all[p] = value(bytes[p]);
-    }
-    all
-}
+use std::array;
 
 // What the column says: the poster its record, the others nothing.
 fn message(column: Column, poster: u8) -> [u16; 32]
@@ -37,8 +22,8 @@ fn message(column: Column, poster: u8) -> [u16; 32]
     if column.own != poster {
         return [Field::BLANK; 32];
     }
-    let bytes = column.bytes;
-    values(bytes)
+    // by index: `map` takes some 530 instructions more
+    array::from_fn(|p| column.bytes[p] as u16)
 }
 
 // Says it to all.
@@ -47,51 +32,35 @@ pub(super) fn say(column: Column, poster: u8, out: &mut [u16])
     ensures { out.new ≡ to_columns (Post poster) column }
 {
     let mine = message(column, poster);
-    messages::to_all(column.n, column.m as u16, &mine, out);
+    messages::to_all(column.n, column.m as u16, &mine, out).unwrap();
 }
 
 // Value k of the poster's message; no other message is read.
 fn posted_by(column: Column, poster: u8, inbox: &[u16], k: u16) -> u16
     ensures { result ≡ posted_by poster column inbox.now k }
 {
-    if poster == 0 {
-        return messages::value(inbox, k as usize);
-    }
-    messages::value(inbox, messages::place(poster - 1, column.m as u16, k))
-}
-
-// Whether a value is a byte.
-fn is_byte(v: u16) -> bool
-    ensures { result ≡ ltb (read_byte v) 256 }
-{
-    messages::read_byte(v) < 256
+    messages::value(
+        inbox,
+        messages::place(poster.saturating_sub(1), column.m as u16, k),
+    )
 }
 
 // Whether all values of the poster's message are bytes.
 fn are_bytes(column: Column, poster: u8, inbox: &[u16]) -> bool
     ensures { result ≡ all (sent_byte (posted_by poster column inbox.now)) column.m }
 {
-    let m = column.m;
-    for k in 0..m {
-        if !is_byte(posted_by(column, poster, inbox, k as u16)) {
-            return false;
-        }
-    }
-    true
+    (0..column.m).all(move |k| messages::read_byte(posted_by(column, poster, inbox, k as u16))
+        < 256)
 }
 
 // Byte p of the record that was posted; 0 past m, and for a value that is no byte.
-fn byte_at(column: Column, poster: u8, inbox: &[u16], p: u8) -> u8
+fn byte_at(column: Column, poster: u8, inbox: &[u16], p: usize) -> u8
     ensures { result ≡ posted_byte column.m (posted_by poster column inbox.now) p }
 {
-    if column.m <= p {
+    if column.m as usize <= p {
         return 0;
     }
-    let v = posted_by(column, poster, inbox, p as u16);
-    if !is_byte(v) {
-        return 0;
-    }
-    v as u8
+    u8::try_from(posted_by(column, poster, inbox, p as u16)).unwrap_or(0)
 }
 
 // The record that another column takes: zeros where a value of the message is no byte.
@@ -101,12 +70,7 @@ fn taken(column: Column, poster: u8, inbox: &[u16]) -> [u8; 32]
     if !are_bytes(column, poster, inbox) {
         return [0u8; 32];
     }
-    let mut bytes = [0u8; 32];
-    for p in 0..32u8 {
-        let at = p as usize;
-        bytes[at] = byte_at(column, poster, inbox, p);
-    }
-    bytes
+    array::from_fn(|p| byte_at(column, poster, inbox, p))
 }
 
 // The record after the poster spoke; the poster keeps its own.
@@ -114,8 +78,7 @@ fn posted(column: Column, poster: u8, inbox: &[u16]) -> [u8; 32]
     ensures { result ≡ posted_of poster column inbox.now }
 {
     if column.own == poster {
-        let bytes = column.bytes;
-        return bytes;
+        return column.bytes;
     }
     taken(column, poster, inbox)
 }
@@ -124,9 +87,8 @@ fn posted(column: Column, poster: u8, inbox: &[u16]) -> [u8; 32]
 pub(super) fn hear(column: Column, poster: u8, next: Stage, inbox: &[u16]) -> Column
     ensures { result ≡ hears (Post poster) next column inbox.now }
 {
-    let bytes = posted(column, poster, inbox);
     Column {
-        bytes: bytes,
+        bytes: posted(column, poster, inbox),
         stage: next,
         ..column
     }

@@ -1,7 +1,9 @@
 // Rounds 2 and 3 of an agreement, 3 and 4 of a posting: the reports, and the grade that the second ones give.
+#![tactic(auto, unfolding(agreement::specs::Rounds::hears, agreement::specs::Rounds::received, agreement::specs::Rounds::message, agreement::specs::Rounds::graded, agreement::specs::Rounds::first_vote))]
+
 ghost use Rattle.std.specs.Prelude.{◌≡◌};
 ghost use Rattle.protocols.specs.declared.Kind.TheVariants.{FirstReport, SecondReport};
-ghost use Rattle.agreement.specs.Rounds.{first_vote, hears};
+ghost use Rattle.agreement.specs.Rounds.{hears};
 
 use super::votes::vote_after;
 use super::words::{first_report, received, second_report};
@@ -12,36 +14,28 @@ pub(super) fn hear_first(column: Column, next: Stage, inbox: &[u16]) -> Column
     ensures { result ≡ hears FirstReport next column inbox.now }
 {
     let values = received(column.n, column.own, first_report(column), inbox);
-    let flags = dispersal::reports::received(column.n, values);
     Column {
-        reports: flags,
+        reports: dispersal::reports::received(column.n, values),
         stage: next,
         ..column
     }
 }
 
-// The vote starts as 1 exactly at grade 2.
-fn first_vote(grade: u8) -> u8
-    ensures { result ≡ first_vote grade }
-{
-    if grade == 2 {
-        return 1;
-    }
-    0
-}
-
-// The second reports give the grade, and the grade the vote.
+// The second reports give the grade, and the grade the vote, which starts as 1 exactly at grade 2.
 pub(super) fn hear_second(column: Column, next: Stage, inbox: &[u16]) -> Column
     ensures { result ≡ hears SecondReport next column inbox.now }
 {
     let values = received(column.n, column.own, second_report(column), inbox);
-    let agreements = column.agreements;
-    let reports = column.reports;
-    let grade = dispersal::reports::grade(column.n, column.own, agreements, reports, values);
-    let protocol = column.protocol;
+    let grade = dispersal::reports::grade(
+        column.n,
+        column.own,
+        column.agreements,
+        column.reports,
+        values,
+    );
     Column {
-        grade: grade,
-        vote: vote_after(protocol, column.vote, first_vote(grade)),
+        grade,
+        vote: vote_after(column.protocol, column.vote, u8::from(grade == 2)),
         stage: next,
         ..column
     }

@@ -8,6 +8,7 @@ use agreement::Column;
 use protocols::Kind;
 
 // Writes to each column what the column says to it in a round of the kind.
+#[tactic(auto, using(crate::specs::Ready::word_accepted), unfolding(crate::specs::Rounds::to_columns, agreement::specs::Rounds::message, protocols::specs::Protocols::width, messages::specs::Messages::to_all))]
 pub(super) fn say(column: Column, kind: Kind, out: &mut [u16])
     requires { Ready kind column (length out.old) }
     ensures { out.new ≡ to_columns kind column }

@@ -1,4 +1,6 @@
 // Rounds 3t + 7 and 3t + 8 of an agreement, 5 and 6 of a posting: dissemination, and the end.
+#![tactic(auto, using(sizes::proofs::Refusals::there, sizes::proofs::Refusals::got, messages::proofs::Laws::if_done, crate::specs::Ready::points_said, crate::specs::Ready::points_heard), unfolding(agreement::specs::Rounds::hears, crate::specs::Rounds::to_columns, protocols::specs::Protocols::width, agreement::specs::Rounds::message, agreement::specs::Rounds::votes_one, agreement::specs::Rounds::spreads, messages::specs::Messages::to_all, dissemination::specs::Dissemination::points_to_all))]
+
 ghost use Rattle.std.specs.Prelude.{◌≡◌, length};
 ghost use Rattle.protocols.specs.declared.Kind.TheVariants.{Points, KeptPoints};
 ghost use Rattle.agreement.specs.declared.Stage.TheVariants.{Ended};
@@ -14,18 +16,14 @@ use agreement::{Column, Outcome, Stage};
 fn votes_one(column: Column) -> bool
     ensures { result ≡ votes_one column }
 {
-    let protocol = column.protocol;
-    vote_in(protocol, column.vote) == 1
+    vote_in(column.protocol, column.vote) == 1
 }
 
 // With vote 1 and grade 1 or 2 the column spreads its record.
 fn spreads(column: Column) -> bool
     ensures { result ≡ spreads_of column }
 {
-    if votes_one(column) {
-        return 1 <= column.grade;
-    }
-    false
+    votes_one(column) && 1 <= column.grade
 }
 
 // To each column its points.
@@ -33,8 +31,7 @@ pub(super) fn say_points(column: Column, out: &mut [u16])
     requires { Ready Points column (length out.old) }
     ensures { out.new ≡ to_columns Points column }
 {
-    let bytes = column.bytes;
-    dissemination::points::send(column.n, column.m, spreads(column), bytes, out);
+    dissemination::points::send(column.n, column.m, spreads(column), column.bytes, out).unwrap();
 }
 
 // The points that came often are kept.
@@ -42,18 +39,17 @@ pub(super) fn hear_points(column: Column, next: Stage, inbox: &[u16]) -> Column
     requires { Ready Points column (length inbox.now) }
     ensures { result ≡ hears Points next column inbox.now }
 {
-    let bytes = column.bytes;
     let kept = dissemination::points::kept(
         column.n,
         column.m,
         column.own,
         spreads(column),
-        bytes,
+        column.bytes,
         inbox,
-    );
-    let points = kept.points;
+    )
+    .unwrap();
     Column {
-        kept: points,
+        kept,
         stage: next,
         ..column
     }
@@ -64,8 +60,7 @@ pub(super) fn say_kept(column: Column, out: &mut [u16])
     requires { Ready KeptPoints column (length out.old) }
     ensures { out.new ≡ to_columns KeptPoints column }
 {
-    let kept = column.kept;
-    dissemination::decoding::send(column.n, column.m, votes_one(column), kept, out);
+    dissemination::decoding::send(column.n, column.m, votes_one(column), column.kept, out).unwrap();
 }
 
 // A column that ended.
@@ -86,19 +81,16 @@ pub(super) fn hear_kept(column: Column, inbox: &[u16]) -> Column
     if !votes_one(column) {
         return ended(column, Outcome::Nothing);
     }
-    let kept = column.kept;
     let decoded = dissemination::decoding::decode(
-        column.n, column.m, column.own, true, kept, inbox,
+        column.n,
+        column.m,
+        column.own,
+        true,
+        column.kept,
+        inbox,
     );
-    if !decoded.found {
-        return ended(column, Outcome::Nothing);
+    match decoded.unwrap() {
+        None => ended(column, Outcome::Nothing),
+        Some(bytes) => ended(Column { bytes, ..column }, Outcome::Record),
     }
-    let bytes = decoded.bytes;
-    ended(
-        Column {
-            bytes: bytes,
-            ..column
-        },
-        Outcome::Record,
-    )
 }

@@ -10,32 +10,28 @@ use agreement::Column;
 pub(super) fn first_report(column: Column) -> u16
     ensures { result ≡ first_report column.n (agrees column.agreements) }
 {
-    let agreements = column.agreements;
-    dispersal::reports::first(column.n, agreements)
+    dispersal::reports::first(column.n, column.agreements)
 }
 
 // The second report, from the agreements and the first reports that came.
 pub(super) fn second_report(column: Column) -> u16
     ensures { result ≡ second_report column.n column.own (agrees column.agreements) (reported column.reports) }
 {
-    let agreements = column.agreements;
-    let reports = column.reports;
-    dispersal::reports::second(column.n, column.own, agreements, reports)
+    dispersal::reports::second(column.n, column.own, column.agreements, column.reports)
 }
 
 // Says a word to all.
+#[tactic(auto, using(sizes::proofs::Refusals::there, messages::proofs::Laws::if_done))]
 pub(super) fn say(n: u8, word: u16, out: &mut [u16])
     requires { to_all_refusal n 1 (length out.old) ≡ 0 }
     ensures { out.new ≡ to_all n 1 (word ∷ []) }
 {
-    let mine = [word];
-    messages::to_all(n, 1, &mine, out);
+    messages::to_all(n, 1, &[word], out).unwrap();
 }
 
 // What is heard of all, where `word` is the own.
 pub(super) fn received(n: u8, own: u8, word: u16, inbox: &[u16]) -> [u16; 31]
     ensures { result ≡ heard_of_all n own (word ∷ []) 1 inbox.now 0 }
 {
-    let mine = [word];
-    messages::heard_of_all(n, own, &mine, 1, inbox, 0)
+    messages::heard_of_all(n, own, &[word], 1, inbox, 0)
 }

@@ -2,10 +2,14 @@
 #![tactic(auto)]
 
 ghost use Rattle.std.specs.Prelude.{◌≡◌, ◌+◌, ◌*◌, ◌<◌};
+ghost use Rattle.sizes.specs.Refusals.{number_in};
 ghost use Rattle.sheet.specs.Sheet.{columns as columns_of, bytes as bytes_of, mark as mark_of, sound as sound_of, unsound as unsound_of, unsound_to, record_place, arrays as arrays_of, whole as whole_of, mark_fits, in_order, refusal_of_marks, refusal as refusal_of};
 ghost use Rattle.lists.specs.Lists.{bit, all};
 
+use sizes::numbers::Refusal;
+
 // n, the number of columns.
+#[tactic(auto, unfolding(crate::specs::Sheet::columns))]
 pub fn columns(sheet: &[u8]) -> u8
     ensures { result ≡ columns_of sheet.now }
 {
@@ -13,6 +17,7 @@ pub fn columns(sheet: &[u8]) -> u8
 }
 
 // m, the bytes of a record.
+#[tactic(auto, unfolding(crate::specs::Sheet::bytes))]
 pub fn bytes(sheet: &[u8]) -> u8
     ensures { result ≡ bytes_of sheet.now }
 {
@@ -20,6 +25,7 @@ pub fn bytes(sheet: &[u8]) -> u8
 }
 
 // The mark of column i.
+#[tactic(auto, unfolding(crate::specs::Sheet::mark))]
 pub fn mark(sheet: &[u8], i: u8) -> u8
     ensures { result ≡ mark_of sheet.now i }
 {
@@ -27,26 +33,22 @@ pub fn mark(sheet: &[u8], i: u8) -> u8
 }
 
 // Whether i is a column, and marked sound.
+#[tactic(auto, unfolding(crate::specs::Sheet::sound))]
 pub fn sound(sheet: &[u8], i: u8) -> bool
     ensures { result ≡ sound_of sheet.now i }
 {
-    if columns(sheet) < i {
-        return false;
-    }
-    mark(sheet, i) == 0
+    i <= columns(sheet) && mark(sheet, i) == 0
 }
 
 // 1 where column i is marked unsound, else 0.
+#[tactic(auto, unfolding(crate::specs::Sheet::unsound))]
 fn one_if_unsound(sheet: &[u8], i: u8) -> u8
     ensures { result ≡ bit (unsound_of sheet.now i) }
 {
-    if mark(sheet, i) == 1 {
-        return 1;
-    }
-    0
+    u8::from(mark(sheet, i) == 1)
 }
 
-// How many of the columns 1 to i are marked unsound.
+// How many of the columns 1 to i are marked unsound. By index: where it was tried, counting by `filter` took twice as long.
 fn unsound_to(sheet: &[u8], i: u8) -> u8
     ensures { result ≡ unsound_to sheet.now i }
 {
@@ -93,6 +95,7 @@ fn whole(line: u16, n: u8, m: u8, u: u8) -> usize
 }
 
 // Whether column i + 1 is marked 0 or 1.
+#[tactic(auto, unfolding(crate::specs::Sheet::mark_fits))]
 fn mark_fits(sheet: &[u8], i: u8) -> bool
     requires { i < 255 }
     ensures { result ≡ mark_fits sheet.now i }
@@ -103,34 +106,29 @@ fn mark_fits(sheet: &[u8], i: u8) -> bool
 fn marks_fit(sheet: &[u8], n: u8) -> bool
     ensures { result ≡ all (mark_fits sheet.now) n }
 {
-    for i in 0..n {
-        if !mark_fits(sheet, i) {
-            return false;
-        }
-    }
-    true
+    (0..n).all(|i| mark_fits(sheet, i))
 }
 
-// 5 where a mark does not fit, then 6 where not few are unsound, then 4 where the sheet is not whole; 0 for none.
+// 5 where a mark does not fit, then 6 where not few are unsound, then 4 where the sheet is not whole.
 #[tactic(auto, unfolding(crate::specs::Sheet::in_order))]
-fn in_order(fit: bool, few: bool, full: bool) -> u8
-    ensures { result ≡ in_order fit few full }
+fn in_order(fit: bool, few: bool, full: bool) -> Result<(), Refusal>
+    ensures { number_in result ≡ in_order fit few full }
 {
     if !fit {
-        return 5;
+        return Err(Refusal::Mark);
     }
     if !few {
-        return 6;
+        return Err(Refusal::Unsound);
     }
     if full {
-        return 0;
+        return Ok(());
     }
-    4
+    Err(Refusal::Length)
 }
 
 // Of the marks and the full length.
-fn refusal_of_marks(line: u16, sheet: &[u8]) -> u8
-    ensures { result ≡ refusal_of_marks line sheet.now }
+fn refusal_of_marks(line: u16, sheet: &[u8]) -> Result<(), Refusal>
+    ensures { number_in result ≡ refusal_of_marks line sheet.now }
 {
     let n = columns(sheet);
     let u = unsound_to(sheet, n);
@@ -139,25 +137,21 @@ fn refusal_of_marks(line: u16, sheet: &[u8]) -> u8
     in_order(marks_fit(sheet, n), few, full)
 }
 
-// The refusal of a sheet whose lines have `line` values for each receiver, with a column number beside it, and of a row of `rows` entries;
-// 0 for none.
-pub fn refusal(number: u8, line: u16, sheet: &[u8], rows: usize) -> u8
-    ensures { result ≡ refusal_of number line sheet.now rows }
+// The refusal of a sheet whose lines have `line` values for each receiver, with a column number beside it, and of a row of `rows` entries.
+pub fn refusal(number: u8, line: u16, sheet: &[u8], rows: usize) -> Result<(), Refusal>
+    ensures { number_in result ≡ refusal_of number line sheet.now rows }
 {
     if sheet.len() < 2 {
-        return 4;
+        return Err(Refusal::Length);
     }
     let n = columns(sheet);
     let m = bytes(sheet);
-    let why = sizes::refusal(n, m, number);
-    if why != 0 {
-        return why;
-    }
+    sizes::refusal(n, m, number)?;
     if sheet.len() < arrays(n, m) {
-        return 4;
+        return Err(Refusal::Length);
     }
     if rows != n as usize {
-        return 4;
+        return Err(Refusal::Length);
     }
     refusal_of_marks(line, sheet)
 }

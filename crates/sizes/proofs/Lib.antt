@@ -1,2 +1,3 @@
--- Laws: what upper floors use of the sizes.
+-- Laws: what upper floors use of the sizes. Refusals: how a refusal is handed on.
 pub mod Laws
+pub mod Refusals

@@ -1,20 +1,22 @@
 // An entry as bytes.
 ghost use Rattle.std.specs.Prelude.{◌≡◌, ◌++◌, ◌≤◌, length, drop};
+ghost use Rattle.sizes.specs.Refusals.{number_in};
 ghost use Rattle.messages.specs.Messages.{refusal as refusal_of, put as put_of};
 ghost use Rattle.state_bytes.specs.Entry.{entry_length, entry_bytes};
 
 use agreement::Entry;
+use sizes::numbers::Refusal;
 
 // How long an entry is: its numbers, and the record.
 const NUMBERS: usize = 4;
 
 pub const SIZE: usize = NUMBERS + 32;
 
-// The refusal `why` where there is one, else 4 for a slice that has not an entry's length, else 0.
-pub fn refusal(why: u8, len: usize) -> u8
-    ensures { result ≡ refusal_of why 1 entry_length len }
+// The refusal of a slice that has not an entry's length: 4.
+pub fn refusal(len: usize) -> Result<(), Refusal>
+    ensures { number_in result ≡ refusal_of 0 1 entry_length len }
 {
-    messages::refusal(why, 1, SIZE as u16, len)
+    messages::refusal(1, SIZE as u16, len)
 }
 
 // To the front of a part that has room for it.
@@ -22,15 +24,14 @@ fn fill(entry: Entry, part: &mut [u8])
     requires { entry_length ≤ length part.old }
     ensures { part.new ≡ entry_bytes entry ++ drop entry_length part.old }
 {
-    let bytes = entry.bytes;
     let front = [
         entry.mark,
         entry.grade,
         entry.vote,
-        messages::flag(entry.has_record),
+        u8::from(entry.has_record),
     ];
-    messages::put(&front, part);
-    messages::put(&bytes, &mut part[NUMBERS..]);
+    messages::put(&front, part).unwrap();
+    messages::put(&entry.bytes, &mut part[NUMBERS..]).unwrap();
 }
 
 // Writes an entry to the front of a part; one that has no room for its bytes, which are as many as SIZE, stays as it was.

@@ -7,10 +7,12 @@ mod reading;
 mod writing;
 
 ghost use Rattle.std.specs.Prelude.{◌≡◌, length};
+ghost use Rattle.sizes.specs.Refusals.{number_in};
 ghost use Rattle.messages.specs.Messages.{refusal as refusal_of, unless_refused};
 ghost use Rattle.state_bytes.specs.Layout.{state_length, encode as encode_of, column_of, decode as decode_of, is_state};
 
 use agreement::Column;
+use sizes::numbers::Refusal;
 
 // Where each part of a state starts: where the one before it ends.
 const VERSION: usize = 0;
@@ -53,77 +55,56 @@ const FLAGS: usize = KEPT - AGREEMENTS;
 
 pub const SIZE: usize = KEPT + 64;
 
-// The refusal `why` where there is one, else 4 for a slice that has not a state's length, else 0.
-pub fn refusal(why: u8, len: usize) -> u8
-    ensures { result ≡ refusal_of why 1 state_length len }
+// The refusal of a slice that has not a state's length: 4.
+pub fn refusal(len: usize) -> Result<(), Refusal>
+    ensures { number_in result ≡ refusal_of 0 1 state_length len }
 {
-    messages::refusal(why, 1, SIZE as u16, len)
+    messages::refusal(1, SIZE as u16, len)
 }
 
-// Writes the state of a column to a slice of its length. Answers 0, or refuses with 4 for a slice of another
-// length, which stays as it was.
-pub fn encode(column: Column, state: &mut [u8]) -> u8
-    ensures { (result ≡ refusal_of 0 1 state_length (length state.old)) × (state.new ≡ unless_refused (refusal_of 0 1 state_length (length state.old)) (encode_of column) state.old) }
+// Writes the state of a column to a slice of its length. Refused with 4 for a slice of another length, which stays as it was.
+pub fn encode(column: Column, state: &mut [u8]) -> Result<(), Refusal>
+    ensures { (number_in result ≡ refusal_of 0 1 state_length (length state.old)) × (state.new ≡ unless_refused (refusal_of 0 1 state_length (length state.old)) (encode_of column) state.old) }
 {
-    let why = refusal(0, state.len());
-    if why != 0 {
-        return why;
-    }
+    refusal(state.len())?;
     writing::all(column, state);
-    0
+    Ok(())
 }
 
 // The column that a whole state is read as.
+#[tactic(auto, unfolding(crate::specs::Layout::column_of))]
 fn column(state: [u8; SIZE]) -> Column
     ensures { result ≡ column_of state }
 {
-    let protocol = protocols::protocol_of(state[RUNS], state[POSTER]);
-    let n = state[N];
-    let m = state[M];
-    let own = state[OWN];
-    let stage = reading::stage(state[STAGE], state[ROUND]);
-    let grade = state[GRADE];
-    let vote = state[VOTE];
-    let firm = state[FIRM];
-    let proposal = messages::word(&state, PROPOSAL);
-    let bytes = reading::bytes(&state, BYTES);
-    let agreements = reading::flags(&state, AGREEMENTS);
-    let reports = reading::flags(&state, REPORTS);
-    let kept = reading::words(state, KEPT);
     Column {
-        protocol: protocol,
-        n: n,
-        m: m,
-        own: own,
-        bytes: bytes,
-        proposal: proposal,
-        stage: stage,
-        agreements: agreements,
-        reports: reports,
-        grade: grade,
-        vote: vote,
-        firm: firm == 1,
-        kept: kept,
+        protocol: protocols::protocol_of(state[RUNS], state[POSTER]),
+        n: state[N],
+        m: state[M],
+        own: state[OWN],
+        bytes: reading::bytes(&state, BYTES),
+        proposal: messages::word(&state, PROPOSAL),
+        stage: reading::stage(state[STAGE], state[ROUND]),
+        agreements: reading::flags(&state, AGREEMENTS),
+        reports: reading::flags(&state, REPORTS),
+        grade: state[GRADE],
+        vote: state[VOTE],
+        firm: state[FIRM] == 1,
+        kept: reading::words(&state, KEPT),
     }
 }
 
 // The column that bytes are read as. Where they are no state it is some column, which nobody should use.
+#[tactic(auto, unfolding(crate::specs::Layout::decode))]
 pub fn decode(state: &[u8]) -> Column
     ensures { result ≡ decode_of state.now }
 {
-    let whole = reading::whole(state);
-    column(whole)
+    column(reading::whole(state))
 }
 
 // Whether bytes are a state of a column.
+#[tactic(auto, unfolding(crate::specs::Layout::is_state))]
 pub fn is_state(state: &[u8]) -> bool
     ensures { result ≡ is_state state.now }
 {
-    if state.len() != SIZE {
-        return false;
-    }
-    if !reading::are_numbers(state) {
-        return false;
-    }
-    reading::are_flags(state)
+    state.len() == SIZE && reading::are_numbers(state) && reading::are_flags(state)
 }

@@ -5,114 +5,77 @@ ghost use Rattle.state_bytes.specs.Layout.{Kept, offset, stage_of, byte_from, fl
 
 use crate::{AGREEMENTS, FIRM, FLAGS, LAYOUT, POSTER, ROUND, RUNS, SIZE, STAGE, VERSION};
 use agreement::{Outcome, Stage};
+use std::array;
 
+#[tactic(auto, unfolding(crate::specs::Layout::stage_of))]
 pub(super) fn stage(stage: u8, round: u8) -> Stage
     ensures { result ≡ stage_of stage round }
 {
-    if stage == 0 {
-        return Stage::Speak(round);
+    match stage {
+        0 => Stage::Speak(round),
+        1 => Stage::Listen(round),
+        2 => Stage::Ended(Outcome::Nothing),
+        _ => Stage::Ended(Outcome::Record),
     }
-    if stage == 1 {
-        return Stage::Listen(round);
-    }
-    if stage == 2 {
-        return Stage::Ended(Outcome::Nothing);
-    }
-    Stage::Ended(Outcome::Record)
 }
 
-// A state's bytes of fewer, with zeros past the end.
-fn padded(state: &[u8]) -> [u8; SIZE]
-    ensures { result ≡ whole_of state.now }
-{
-    let mut all = [0u8; SIZE];
-    for i in 0..SIZE {
-        all[i] = messages::byte(state, i);
-    }
-    all
-}
-
-// A state's bytes of more or of fewer, with zeros past the end: what is read of them needs no test of the length.
+// A state's bytes of more or of fewer, with zeros past the end: what is read of them needs no test of the length. By the length, since
+// `first_chunk` takes a twelfth more of decoding and encoding.
 pub(super) fn whole(state: &[u8]) -> [u8; SIZE]
     ensures { result ≡ whole_of state.now }
 {
     if state.len() < SIZE {
-        return padded(state);
+        return array::from_fn(|i| messages::byte(state, i));
     }
-    let mut all = [0u8; SIZE];
-    for i in 0..SIZE {
-        all[i] = state[i];
-    }
-    all
+    array::from_fn(|i| state[i])
 }
 
-pub(super) fn bytes(state: &[u8], at: usize) -> [u8; 32]
+pub(super) fn bytes(state: &[u8; SIZE], at: usize) -> [u8; 32]
     requires { at ≤ offset Kept }
     ensures { result ≡ list_of (byte_from state.now at) 32 }
 {
-    let mut bytes = [0u8; 32];
-    for i in 0..32 {
-        bytes[i] = messages::byte(state, at + i);
-    }
-    bytes
+    array::from_fn(|i| state[at + i])
 }
 
-pub(super) fn flags(state: &[u8], at: usize) -> [bool; 31]
+pub(super) fn flags(state: &[u8; SIZE], at: usize) -> [bool; 31]
     requires { at ≤ offset Kept }
     ensures { result ≡ list_of (flag_from state.now at) 31 }
 {
-    let mut flags = [false; 31];
-    for i in 0..31 {
-        flags[i] = messages::byte(state, at + i) == 1;
-    }
-    flags
+    array::from_fn(|i| state[at + i] == 1)
 }
 
-// A number of 16 bits.
-pub(super) fn word(low: u8, high: u8) -> u16
-    ensures { result ≡ low + 256 * high }
-{
-    low as u16 + 256 * (high as u16)
-}
-
-pub(super) fn words(state: [u8; SIZE], at: usize) -> [u16; 32]
+pub(super) fn words(state: &[u8; SIZE], at: usize) -> [u16; 32]
     requires { at ≤ offset Kept }
-    ensures { result ≡ list_of (word_from state at) 32 }
+    ensures { result ≡ list_of (word_from state.now at) 32 }
 {
-    let mut words = [0u16; 32];
-    for i in 0..32 {
+    array::from_fn(|i| {
         let p = at + 2 * i;
-        words[i] = word(state[p], state[p + 1]);
-    }
-    words
+        u16::from_le_bytes([state[p], state[p + 1]])
+    })
 }
 
 // Where nobody posts, the poster's number is 0.
+#[tactic(auto, unfolding(crate::specs::Layout::is_protocol))]
 fn is_protocol(runs: u8, poster: u8) -> bool
     ensures { result ≡ is_protocol runs poster }
 {
-    if runs as usize >= protocols::PROTOCOLS {
-        return false;
-    }
-    if protocols::posts(protocols::protocol_of(runs, poster)) {
-        return true;
-    }
-    poster == 0
+    (runs as usize) < protocols::PROTOCOLS
+        && (protocols::posts(protocols::protocol_of(runs, poster)) || poster == 0)
 }
 
 // There is no round after the end.
+#[tactic(auto, unfolding(crate::specs::Layout::is_stage))]
 fn is_stage(stage: u8, round: u8) -> bool
     ensures { result ≡ is_stage stage round }
 {
-    if stage < 2 {
-        return true;
+    match stage {
+        0 | 1 => true,
+        2 | 3 => round == 0,
+        _ => false,
     }
-    if stage < 4 {
-        return round == 0;
-    }
-    false
 }
 
+#[tactic(auto, unfolding(crate::specs::Layout::are_numbers))]
 pub(super) fn are_numbers(state: &[u8]) -> bool
     ensures { result ≡ are_numbers state.now }
 {
@@ -123,7 +86,7 @@ pub(super) fn are_numbers(state: &[u8]) -> bool
     version & protocol & stage & firm
 }
 
-// Agreements and reports lie behind each other, and are tested in one loop.
+// Agreements and reports lie behind each other, and are tested in one loop, by index and none left early: the machine tests eight at a time.
 pub(super) fn are_flags(state: &[u8]) -> bool
     ensures { result ≡ all (is_flag state.now) flags_of }
 {

@@ -4,8 +4,8 @@ use Rattle.std.specs.Prelude.{cond, List, [], ◌∷◌, ◌++◌, ℕ, ◌%◌,
 use Rattle.field.specs.Field.{blank}
 use Rattle.protocols.specs.declared.Protocol.{Protocol}
 use Rattle.messages.specs.Messages.{refusal, unless_refused}
-use Rattle.decoder.specs.declared.Decoded.{Decoded}
-use Rattle.decoder.specs.declared.Decoded.TheVariants.{Polynomial, Nothing, Refused}
+use Rattle.decoder.specs.Decoder.{Decoded}
+use Rattle.decoder.specs.Decoder.{Polynomial, Nothing, Refused}
 use Rattle.decoder.specs.Decoder.{decoded, four}
 use Rattle.decoder.specs.Decoder as D
 use Rattle.agreement.specs.declared.Entry.{Entry}

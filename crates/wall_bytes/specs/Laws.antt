@@ -1,6 +1,6 @@
 -- Laws for the code: what is written to a lent slice, and a row of entries on its way.
-use Rattle.std.specs.Prelude.{◌≡◌, Bool, true, false, cond, List, [], ◌∷◌, ◌++◌, ℕ, ◌+◌, ◌-◌, ◌*◌, ◌/◌, ◌%◌, ◌≤◌, ◌<◌, eqb, length, take, drop}
-use Rattle.std.proofs.Math.Path.{refl, ap, sym}
+use Rattle.std.specs.Prelude.{◌≡◌, Bool, true, false, cond, List, [], ◌∷◌, ◌++◌, ℕ, ◌+◌, ◌-◌, ◌*◌, ◌/◌, ◌%◌, ◌≤◌, ◌<◌, eqb, length, take, drop, Option, Some, None, Ok}
+use Rattle.std.proofs.Math.Path.{refl, ap₂, sym}
 use Rattle.std.proofs.Common.{◌∙◌, append_assoc, append-nil, add-one, arith, eqb-true, length-append, length-drop}
 use Rattle.lists.specs.Lists.{list_of}
 use Rattle.lists.specs.Entries.{list_of_get_d, list_of_done}
@@ -8,11 +8,12 @@ use Rattle.protocols.specs.declared.Protocol.{Protocol}
 use Rattle.field.specs.Field.{blank}
 use Rattle.messages.specs.Messages.{said, written, put}
 use Rattle.messages.proofs.Laws.{written_fits}
+use Rattle.decoder.specs.declared.Coefficients.{Coefficients}
+use Rattle.decoder.specs.Decoder.{refusal_of, found_in}
+use Rattle.sheet.specs.Sheet.{columns}
 use Rattle.agreement.specs.declared.Entry.{Entry}
-use Rattle.wall_run.specs.declared.Outcomes.{Outcomes}
-use Rattle.wall_run.specs.Run.{entries, outcomes, settled}
-use Rattle.wall_run.specs.Run as W
-use Rattle.wall_run.specs.Row.{entry_at, accepted_run, outcomes_refusal, run_settled, in_places_lem}
+use Rattle.wall_run.specs.Run.{entries, outcomes, outcomes_in}
+use Rattle.wall_run.specs.Row.{entry_at, accepted_run, settled_with, in_places_lem}
 use Rattle.state_bytes.specs.Entry.{entry_length, entry_bytes}
 use Rattle.state_bytes.specs.Writing.{Fronted, fronted_more, fronted_all}
 use Rattle.wall_bytes.specs.Calls.{row_bytes, places, wall_answer}
@@ -74,26 +75,27 @@ places_size row = go (eqb (length row % entry_length) 0) refl
     go true e h = omega (arith, eqb-true (length row % entry_length) 0 e)
     go false e h = absurd (omega arith)
 
-module _ (p : Protocol) (sheet row : List ℕ) (o : Outcomes) (e : o ≡ outcomes p sheet (places row)) where
-  pub wall_refusal : o.refusal ≡ wall_answer p sheet row
-  unfolding wall_answer
-  wall_refusal = ap (λ (q : Outcomes). q.refusal) e ∙ outcomes_refusal p sheet (places row)
+-- what a run that returned entries came to
+pub record Ran (p : Protocol) (sheet row : List ℕ) (es : List Entry) : Type 0 where
+  pub done : wall_answer p sheet row ≡ 0
+  pub size : entry_length * places row ≡ length row
+  pub few : places row ≤ 31
+  pub holds : list_of (entry_at es) (places row) ≡ entries p sheet
 
-  -- what a run that is not refused came to
-  pub record Ran : Type 0 where
-    pub size : entry_length * o.count ≡ length row
-    pub few : o.count ≤ 31
-    pub holds : list_of (entry_at o.entries) o.count ≡ entries p sheet
+pub ran : (p : Protocol) (sheet row : List ℕ) (es : List Entry) → outcomes_in (columns sheet) (Ok es) ≡ outcomes p sheet (places row) → Ran p sheet row es
+unfolding wall_answer
+ran p sheet row es e =
+    let (done, are) = settled_with p sheet (places row) (columns sheet) es e in
+    let a = (accepted_run p sheet (places row) done).0 in
+    record {
+      done = done;
+      size = places_size row (omega (arith, a.rows_are, a.arrays_there.range.columns_low));
+      few = omega (arith, a.rows_are, a.arrays_there.range.columns_high);
+      holds = ap₂ {C = List Entry} (λ es k. list_of (entry_at es) k) are a.rows_are ∙ in_places_lem p sheet;
+    }
 
-  pub ran : o.refusal ≡ 0 → Ran
-  unfolding wall_answer settled
-  ran h =
-      let z : W.refusal p sheet (places row) ≡ 0 = sym wall_refusal ∙ h in
-      let a = (accepted_run p sheet (places row) z).0 in
-      let is = e ∙ run_settled p sheet (places row) z in
-      let n = ap (λ (q : Outcomes). q.count) is in
-      record {
-        size = omega (arith, n, a.rows_are, places_size row (omega (arith, a.rows_are, a.arrays_there.range.columns_low)));
-        few = omega (arith, n, a.arrays_there.range.columns_high);
-        holds = ap (λ (q : Outcomes). list_of (entry_at q.entries) q.count) is ∙ in_places_lem p sheet;
-      }
+-- A BLOCK: what was found is not refused
+pub found_accepted : (found : Option Coefficients) → refusal_of (found_in found) ≡ 0
+unfolding refusal_of
+found_accepted None = refl
+found_accepted (Some c) = refl

@@ -1,31 +1,33 @@
 // The decoder on plain slices.
 ghost use Rattle.std.specs.Prelude.{◌≡◌};
-ghost use Rattle.decoder.specs.Decoder.{refusal_of};
+ghost use Rattle.sizes.specs.Refusals.{number_in};
+ghost use Rattle.decoder.specs.Decoder.{found_in};
 ghost use Rattle.column_bytes.specs.Calls.{narrow as narrow_of};
 ghost use Rattle.wall_bytes.specs.Calls.{coefficients_of, block_answer, block_out};
 
 use column_bytes::numbers::narrow;
-use decoder::Decoded;
+use decoder::Coefficients;
 use field::Field;
+use sizes::numbers::{Refusal, number_in};
 
-fn refusal(decoded: Decoded) -> u8
-    ensures { result ≡ refusal_of decoded }
+// The four coefficients of a polynomial, or four blanks.
+#[tactic(auto, unfolding(crate::specs::Calls::coefficients_of))]
+fn coefficients(found: Option<Coefficients>) -> [u16; 4]
+    ensures { result ≡ coefficients_of (found_in found) }
 {
-    match decoded {
-        Decoded::Polynomial(_) => 0,
-        Decoded::Nothing => 0,
-        Decoded::Refused(why) => why,
+    match found {
+        Some(c) => [c.c0, c.c1, c.c2, c.c3],
+        None => [Field::BLANK; 4],
     }
 }
 
-fn coefficients(decoded: Decoded) -> [u16; 4]
-    ensures { result ≡ coefficients_of decoded }
+// Decodes n points and writes what was found.
+fn decode(n: u8, points: &[u16], out: &mut [u16]) -> Result<(), Refusal>
+    ensures { (number_in result ≡ block_answer n points.now out.old) × (out.new ≡ block_out n points.now out.old) }
 {
-    match decoded {
-        Decoded::Polynomial(c) => [c.c0, c.c1, c.c2, c.c3],
-        Decoded::Nothing => [Field::BLANK; 4],
-        Decoded::Refused(_) => [Field::BLANK; 4],
-    }
+    let found = decoder::decode(n, points)?;
+    messages::refusal(1, 4, out.len())?;
+    messages::write(4, &coefficients(found), out)
 }
 
 // Decodes n points, by column number, and writes four coefficients, or four blanks where no polynomial meets enough of them: `decoder::decode`. Refused
@@ -33,11 +35,5 @@ fn coefficients(decoded: Decoded) -> [u16; 4]
 pub fn column_decode(n: u32, points: &[u16], out: &mut [u16]) -> u8
     ensures { (result ≡ block_answer (narrow_of n) points.now out.old) × (out.new ≡ block_out (narrow_of n) points.now out.old) }
 {
-    let decoded = decoder::decode(narrow(n), points);
-    let why = messages::refusal(refusal(decoded), 1, 4, out.len());
-    if why != 0 {
-        return why;
-    }
-    let values = coefficients(decoded);
-    messages::write(4, &values, out)
+    number_in(decode(narrow(n), points, out))
 }

@@ -1,34 +1,33 @@
 // Entries as bytes, one after the other.
 ghost use Rattle.std.specs.Prelude.{◌≡◌};
+ghost use Rattle.sizes.specs.Refusals.{number_in};
 ghost use Rattle.wall_bytes.specs.Calls.{places as places_of, wall_answer, wall_row};
 
 use protocols::Protocol;
-use state_bytes::entries;
-use state_bytes::entries::SIZE;
+use sizes::numbers::Refusal;
+use state_bytes::entries::{self, SIZE};
 
 // How many entries a slice holds: none where it ends within one.
+#[tactic(auto, unfolding(crate::specs::Calls::places))]
 fn places(row: &[u8]) -> usize
     ensures { result ≡ places_of row.now }
 {
     if row.len() % SIZE == 0 {
-        return row.len() / SIZE;
+        row.len() / SIZE
+    } else {
+        0
     }
-    0
 }
 
 // Runs the wall that a sheet describes and writes the entries.
-pub(super) fn run(protocol: Protocol, sheet: &[u8], row: &mut [u8]) -> u8
-    ensures { (result ≡ wall_answer protocol sheet.now row.old) × (row.new ≡ wall_row protocol sheet.now row.old) }
+pub(super) fn run(protocol: Protocol, sheet: &[u8], row: &mut [u8]) -> Result<(), Refusal>
+    ensures { (number_in result ≡ wall_answer protocol sheet.now row.old) × (row.new ≡ wall_row protocol sheet.now row.old) }
 {
-    let o = wall_run::outcomes_of(protocol, sheet, places(row));
-    if o.refusal != 0 {
-        return o.refusal;
+    let n = places(row);
+    let all = wall_run::outcomes_of(protocol, sheet, n)?;
+    // By index: what `chunks_exact_mut` lends is not known behind the loop.
+    for i in 0..n {
+        entries::put(all[i], &mut row[SIZE * i..]);
     }
-    let all = o.entries;
-    for i in 0..o.count {
-        let at = SIZE * i;
-        let entry = all[i];
-        entries::put(entry, &mut row[at..]);
-    }
-    0
+    Ok(())
 }

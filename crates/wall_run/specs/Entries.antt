@@ -20,10 +20,9 @@ use Rattle.agreement.specs.Machine.{machine}
 use Rattle.agreement.proofs.Shapes.{fresh_shaped, final_shaped}
 use Rattle.sheet.specs.Sheet.{columns, bytes, mark, sound, record_of}
 use Rattle.sheet.specs.Laws.{Accepted}
-use Rattle.wall_run.specs.declared.Outcomes.{Outcomes}
 use Rattle.agreement.specs.Entries.{mark_only, sound_entry}
 use Rattle.agreement.proofs.Endings.{entry_bytes_lem}
-use Rattle.wall_run.specs.Run.{column_at, ended, entry_of, entry_in, entries, refusal, in_places, settled, outcomes}
+use Rattle.wall_run.specs.Run.{Outcomes, column_at, ended, entry_of, entry_in, entries, refusal, in_places, settled, outcomes}
 use Rattle.wall_run.specs.Row.{accepted_run, run_settled}
 use Rattle.wall_run.specs.Claim.{entry_of_column}
 use Rattle.wall_run.specs.Columns.{entry_is}

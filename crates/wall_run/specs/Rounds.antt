@@ -23,6 +23,16 @@ one_le p n m round r = values_by_kind (λ w. n * w ≤ 992) p n m round (omega a
 pub mail_le : (n w : ℕ) → n ≤ 31 → n * w ≤ 992 → n * (n * w) ≤ 30752
 mail_le n w h g = mul-le-mul {n₁ = n} {m₁ = n * w} {n₂ = 31} {m₂ = 992} h g
 
+-- and as the loop asks for it
+module _ (p : Protocol) (sheet : List ℕ) (n m w q : ℕ) (r : InRange (columns sheet) (bytes sheet)) (en : n ≡ columns sheet) (em : m ≡ bytes sheet) (ew : w ≡ values_in p n m q) where
+  pub one_fits : columns sheet * w ≤ 992
+  one_fits = rw (ew, en, em) (one_le p (columns sheet) (bytes sheet) q r)
+
+  pub all_fit : (len : ℕ) → len ≡ n * (columns sheet * w) → (len ≡ columns sheet * (columns sheet * w)) × (len ≤ 30752)
+  all_fit len e =
+      let is : len ≡ columns sheet * (columns sheet * w) = e ∙ ap (λ (j : ℕ). j * (columns sheet * w)) en in
+      (is, omega (arith, is, mail_le (columns sheet) w r.columns_high one_fits))
+
 -- a round as the loop has it
 round_is : (p : Protocol) (sheet : List ℕ) (q l o w : ℕ) → l ≡ line_in p (columns sheet) (bytes sheet) → o ≡ sum (values_in p (columns sheet) (bytes sheet)) q
     → w ≡ values_in p (columns sheet) (bytes sheet) (q + 1) → ◌≡◌ {A = Round} (record { line = l; offset = o; width = w }) (round_at p sheet (q + 1))

@@ -1,12 +1,12 @@
 -- The entries of a run on their way to the lent row.
-use Rattle.std.specs.Prelude.{◌≡◌, refl, Bool, true, false, List, [], ◌++◌, ℕ, ◌≤◌, eqb, length, get_or, drop, replicate}
+use Rattle.std.specs.Prelude.{Ok, ◌≡◌, refl, Bool, true, false, List, [], ℕ, eqb, length, get_or, drop, replicate}
 use Rattle.std.proofs.Math.Path.{sym}
-use Rattle.std.proofs.Common.{subst, ◌∙◌, eq-eqb, ne_eqb, eqb-true}
+use Rattle.std.proofs.Common.{subst, ap, ap₂, ◌∙◌, eq-eqb, ne_eqb, eqb-true}
 use native.Mathlib.Omega.{arith}
 use Rattle.std.proofs.lemmas.Bool.{eqb-false}
 use Rattle.std.proofs.Math.ListN.{get_or-append}
 use Rattle.lists.specs.Lists.{list_of}
-use Rattle.lists.specs.Entries.{length_list_of, get_d_list_of, list_of_same, list_of_none, list_of_done}
+use Rattle.lists.specs.Entries.{length_list_of, get_d_list_of, list_of_same}
 use Rattle.protocols.specs.declared.Protocol.{Protocol}
 use Rattle.sizes.specs.Sizes.{refusal as refusal_of_sizes}
 use Rattle.protocols.specs.Protocols.{line_in, beside}
@@ -14,8 +14,7 @@ use Rattle.sheet.specs.Sheet.{columns, bytes}
 use Rattle.sheet.specs.Laws.{Accepted, accepted}
 use Rattle.agreement.specs.Entries.{mark_only}
 use Rattle.agreement.specs.declared.Entry.{Entry}
-use Rattle.wall_run.specs.declared.Outcomes.{Outcomes}
-use Rattle.wall_run.specs.Run.{ended, entry_in, entries, refusal, row_after, in_places, settled, refused, outcomes}
+use Rattle.wall_run.specs.Run.{Outcomes, ended, entry_in, entries, refusal, row_after, in_places, settled, refused, outcomes, outcomes_in}
 
 -- what the logic reads past the end of a list of entries
 abbrev pub no_entry : Entry
@@ -24,10 +23,6 @@ no_entry = record { mark = 0; grade = 0; vote = 0; has_record = false; bytes = [
 -- the entry at place i
 abbrev pub entry_at : List Entry → ℕ → Entry
 entry_at entries i = get_or entries i no_entry
-
--- a row with the entries written to its front
-unfoldable pub filled : Outcomes → List Entry → List Entry
-filled o row = list_of (entry_at o.entries) o.count ++ drop o.count row
 
 -- an accepted sheet, and the poster beside it is one of its columns
 pub accepted_run : (p : Protocol) (sheet : List ℕ) (rows : ℕ) → refusal p sheet rows ≡ 0
@@ -60,12 +55,17 @@ module _ (p : Protocol) (sheet : List ℕ) (rows : ℕ) where
   unfolding settled refused
   outcomes_refusal = by_refusal (λ o. o.refusal ≡ refusal p sheet rows) (λ e. sym e) (λ h. refl)
 
-  -- a run has no more entries than the row has places, and no more than 31
-  pub outcomes_fit : ((outcomes p sheet rows).count ≤ rows) × ((outcomes p sheet rows).count ≤ 31)
-  unfolding settled refused
-  outcomes_fit =
-      by_refusal (λ o. (o.count ≤ rows) × (o.count ≤ 31))
-      (λ e. let a = (accepted_run p sheet rows e).0 in (omega (arith, a.rows_are), a.arrays_there.range.columns_high)) (λ h. (omega arith, omega arith))
+  -- read off what was returned: a refusal has the number,
+  pub refused_with : (why : ℕ) → refused why ≡ outcomes p sheet rows → why ≡ refusal p sheet rows
+  unfolding refused
+  refused_with why e = ap (λ (o : Outcomes). o.refusal) e ∙ outcomes_refusal
+
+  -- and where entries were returned, nothing is refused, and they are those of the columns
+  pub settled_with : (n : ℕ) (es : List Entry) → outcomes_in n (Ok es) ≡ outcomes p sheet rows → (refusal p sheet rows ≡ 0) × (es ≡ in_places sheet (ended p sheet))
+  unfolding settled
+  settled_with n es e =
+      let z : refusal p sheet rows ≡ 0 = sym outcomes_refusal ∙ sym (ap (λ (o : Outcomes). o.refusal) e) in
+      (z, ap (λ (o : Outcomes). o.entries) (e ∙ run_settled z))
 
 -- the first n entries of those in 31 places
 pub in_places_lem : (p : Protocol) (sheet : List ℕ) → list_of (entry_at (in_places sheet (ended p sheet))) (columns sheet) ≡ entries p sheet
@@ -75,13 +75,12 @@ in_places_lem p sheet =
     get_or-append (list_of (entry_in sheet (ended p sheet)) (columns sheet)) (drop (columns sheet) (replicate 31 (mark_only 0))) no_entry i (omega (arith, length_list_of (entry_in sheet (ended p sheet)) (columns sheet)))
     ∙ get_d_list_of (entry_in sheet (ended p sheet)) (columns sheet) i no_entry l)
 
--- the row that is filled is the row after the run
-pub filled_is : (p : Protocol) (sheet : List ℕ) (row : List Entry) → filled (outcomes p sheet (length row)) row ≡ row_after p sheet row
-unfolding filled settled refused row_after
-filled_is p sheet row =
-    by_refusal p sheet (length row) (λ o. list_of (entry_at o.entries) o.count ++ drop o.count row ≡ row_after p sheet row)
-    (λ e.
-    let a = (accepted_run p sheet (length row) e).0 in
-    list_of_done (entry_at (in_places sheet (ended p sheet))) (columns sheet) row (omega (arith, a.rows_are)) ∙ in_places_lem p sheet
-    ∙ sym (simp (eq-eqb (refusal p sheet (length row)) 0 e)))
-    (λ h. sym (list_of_none (entry_at (replicate 31 (mark_only 0))) row) ∙ sym (simp (ne_eqb (refusal p sheet (length row)) 0 h)))
+-- the row after a run that is refused, and after one that fills it
+pub row_refused : (p : Protocol) (sheet : List ℕ) (row : List Entry) → (refusal p sheet (length row) ≡ 0 → ⊥) → row ≡ row_after p sheet row
+unfolding row_after
+row_refused p sheet row h = sym (simp (ne_eqb (refusal p sheet (length row)) 0 h))
+
+pub row_filled : (p : Protocol) (sheet : List ℕ) (row es : List Entry) → refusal p sheet (length row) ≡ 0 → es ≡ in_places sheet (ended p sheet)
+    → list_of (entry_at es) (length row) ≡ row_after p sheet row
+row_filled p sheet row es z e =
+    ap₂ {C = List Entry} (λ es k. list_of (entry_at es) k) e (accepted_run p sheet (length row) z).0.rows_are ∙ in_places_lem p sheet ∙ sym (run_done p sheet row z)

@@ -1,6 +1,6 @@
 -- The definitions of a run of a whole wall, in every protocol. Document 01, "A whole wall": "The wall run drives n columns with
 -- the same calls."; and "Posting by one column".
-use Rattle.std.specs.Prelude.{cond, List, ◌++◌, ℕ, zero, suc, ◌+◌, ◌-◌, ◌*◌, eqb, length, get_or, drop, replicate}
+use Rattle.std.specs.Prelude.{Result, Ok, Err, cond, List, ◌++◌, ℕ, zero, suc, ◌+◌, ◌-◌, ◌*◌, eqb, length, get_or, drop, replicate}
 use Rattle.lists.specs.Lists.{sum, list_of, rows_of}
 use Rattle.field.specs.Field.{blank}
 use Rattle.protocols.specs.declared.Protocol.{Protocol}
@@ -13,7 +13,8 @@ use Rattle.agreement.specs.Entries.{mark_only, sound_entry}
 use Rattle.sheet.specs.Sheet.{columns, bytes, mark, sound, record_of, refusal as refusal_of_sheet}
 use Rattle.delivery.specs.declared.Round.{Round}
 use Rattle.delivery.specs.Delivery.{inbox}
-use Rattle.wall_run.specs.declared.Outcomes.{Outcomes}
+use Rattle.sizes.specs.declared.numbers.Refusal.{Refusal}
+use Rattle.sizes.specs.Refusals.{number}
 
 -- THE COLUMNS, by number, in 31 places
 
@@ -103,9 +104,16 @@ refusal p sheet rows = refusal_of_sheet (beside p) (line_in p (columns sheet) (b
 unfoldable pub row_after : Protocol → List ℕ → List Entry → List Entry
 row_after p sheet row = cond (eqb (refusal p sheet (length row)) 0) (entries p sheet) row
 
--- what a run comes to, for a row of `rows` entries: the entries in 31 places, zeros past n; zeros alone where it is refused
+-- the entries in 31 places, a mark 0 and zeros past n
 unfoldable pub in_places : List ℕ → List Column → List Entry
 in_places sheet wall = list_of (entry_in sheet wall) (columns sheet) ++ drop (columns sheet) (replicate 31 (mark_only 0))
+
+-- what a run comes to: the number of the refusal, 0 for none; how many columns have an entry, none where it is refused; and the entries by
+-- column number, zeros alone where it is refused
+pub record Outcomes : Type 0 where
+  pub refusal : ℕ
+  pub count : ℕ
+  pub entries : List Entry
 
 unfoldable pub settled : Protocol → List ℕ → Outcomes
 settled p sheet = record { refusal = 0; count = columns sheet; entries = in_places sheet (ended p sheet) }
@@ -113,5 +121,11 @@ settled p sheet = record { refusal = 0; count = columns sheet; entries = in_plac
 unfoldable pub refused : ℕ → Outcomes
 refused why = record { refusal = why; count = 0; entries = replicate 31 (mark_only 0) }
 
+-- for a row of `rows` entries
 unfoldable pub outcomes : Protocol → List ℕ → ℕ → Outcomes
 outcomes p sheet rows = cond (eqb (refusal p sheet rows) 0) (settled p sheet) (refused (refusal p sheet rows))
+
+-- read off what a call returns, on a wall of n columns
+abbrev pub outcomes_in : ℕ → Result (List Entry) Refusal → Outcomes
+outcomes_in n (Ok entries) = record { refusal = 0; count = n; entries = entries }
+outcomes_in n (Err why) = refused (number why)

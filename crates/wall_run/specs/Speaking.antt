@@ -4,7 +4,7 @@ use Rattle.std.proofs.Common.{ap, sym, ◌∙◌, arith, eqb-true, length-drop, 
 use Rattle.std.proofs.lemmas.List.{length-replicate, get_or-replicate}
 use Rattle.field.specs.Field.{blank}
 use Rattle.lists.specs.Lists.{list_of, rows_of}
-use Rattle.lists.specs.Entries.{length_list_of, get_d_list_of, list_of_get_d}
+use Rattle.lists.specs.Entries.{list_of_get_d}
 use Rattle.lists.specs.Rows.{length_rows_of}
 use Rattle.lists.specs.Loops.{Rowed, rowed_fits}
 use Rattle.protocols.specs.Protocols.{values_in, kind_in}
@@ -20,13 +20,6 @@ pub record Space (n w : ℕ) (mail : List ℕ) : Type 0 where
   pub few : n ≤ 31
   pub narrow : n * w ≤ 992
   pub blank_all : mail ≡ replicate (n * (n * w)) blank
-
--- a list whose entries are blanks
-pub all_blank : (len : ℕ) → list_of (λ p. blank) len ≡ replicate len blank
-all_blank len =
-    ext_get_or 0 (list_of (λ p. blank) len) (replicate len blank) (length_list_of (λ p. blank) len ∙ sym (length-replicate len blank)) (λ i l.
-    let i_in : i < len = omega (arith, length_list_of (λ p. blank) len) in
-    get_d_list_of (λ p. blank) len i 0 i_in ∙ sym (get_or-replicate len i blank 0 i_in))
 
 -- a part of blanks is blanks
 part_blank : (a k len : ℕ) → a + k ≤ len → take k (drop a (replicate len blank)) ≡ replicate k blank

@@ -16,18 +16,16 @@ fn entry(sheet: &[u8], i: u8, column: Column) -> Entry
     calls::mark_only(sheet::mark(sheet, i + 1))
 }
 
-// All entries, zeros past n.
+// All entries, zeros past n. By number, which says whose entry it is.
 pub(super) fn all(sheet: &[u8], wall: [Column; 31]) -> [Entry; 31]
     requires { columns sheet.now ≤ 31 }
     ensures { result ≡ in_places sheet.now wall }
 {
     let n = sheet::columns(sheet);
-    let none = calls::mark_only(0);
-    let mut entries = [none; 31];
+    let mut entries = [calls::mark_only(0); 31];
     for i in 0..n {
         let at = i as usize;
-        let column = wall[at];
-        entries[at] = entry(sheet, i, column);
+        entries[at] = entry(sheet, i, wall[at]);
     }
     entries
 }

@@ -24,12 +24,11 @@ fn hear(
     if !sheet::sound(sheet, i + 1) {
         return column;
     }
-    delivery::deliver(sheet, round, mail, i + 1, inbox);
-    let answered = calls::listen(column, inbox);
-    answered.column
+    delivery::deliver(sheet, round, mail, i + 1, inbox).unwrap();
+    calls::listen(column, inbox).unwrap_or(column)
 }
 
-// All columns listen.
+// All columns listen. By number, which says who listens.
 pub(super) fn listen_all(
     sheet: &[u8],
     round: Round,
@@ -44,8 +43,7 @@ pub(super) fn listen_all(
     let mut inbox = [Field::BLANK; 992];
     for i in 0..n {
         let at = i as usize;
-        let column = wall[at];
-        wall[at] = hear(sheet, round, mail, i, column, &mut inbox[..len]);
+        wall[at] = hear(sheet, round, mail, i, wall[at], &mut inbox[..len]);
     }
     wall
 }

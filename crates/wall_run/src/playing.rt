@@ -16,7 +16,7 @@ fn played(sheet: &[u8], round: Round, wall: [Column; 31], mail: &mut [u16]) -> [
     requires { InRange (columns sheet.now) (bytes sheet.now) × (columns sheet.now * round.width ≤ 992) × (length mail.old ≡ columns sheet.now * (columns sheet.now * round.width)) }
     ensures { result ≡ played_of sheet.now round wall }
 {
-    speaking::clear(mail);
+    mail.fill(Field::BLANK);
     let spoken = speaking::speak_all(sheet, round.width, wall, mail);
     listening::listen_all(sheet, round, mail, spoken)
 }
@@ -38,10 +38,11 @@ pub(super) fn ended(protocol: Protocol, sheet: &[u8]) -> [Column; 31]
         let width = protocols::values_in(protocol, n, m, q + 1);
         let len = space::of_many(sheet, width, n);
         let round = Round {
-            line: line,
-            offset: offset,
-            width: width,
+            line,
+            offset,
+            width,
         };
+        // In a variable first: a call's answer is not laid over the array that was handed to it.
         let next = played(sheet, round, wall, &mut mail[..len]);
         wall = next;
         offset += width;

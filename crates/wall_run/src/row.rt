@@ -1,29 +1,17 @@
 // The row of entries that a program lends.
-ghost use Rattle.std.specs.Prelude.{◌≡◌, ◌++◌, ◌<◌, ◌≤◌, length, drop};
+ghost use Rattle.std.specs.Prelude.{◌≡◌, ◌≤◌, length};
 ghost use Rattle.lists.specs.Lists.{list_of};
 ghost use Rattle.wall_run.specs.Row.{entry_at};
 
-use crate::Outcomes;
 use agreement::Entry;
 
-// The entry at place i.
-pub(super) fn entry_of(o: Outcomes, i: usize) -> Entry
-    requires { i < 31 }
-    ensures { result ≡ entry_at o.entries i }
+// Writes the entries to the row, as many as it has places.
+pub(super) fn write(row: &mut [Entry], entries: [Entry; 31])
+    requires { length row.old ≤ 31 }
+    ensures { row.new ≡ list_of (entry_at entries) (length row.old) }
 {
-    let entries = o.entries;
-    entries[i]
-}
-
-// Writes the entries to the front of the row; the rest of it stays as it is.
-pub(super) fn fill(row: &mut [Entry], o: Outcomes)
-    requires { (o.count ≤ length row.old) × (o.count ≤ 31) }
-    ensures { row.new ≡ list_of (entry_at o.entries) o.count ++ drop o.count row.old }
-{
-    let n = o.count;
-    let mut i = 0;
-    while i < n {
-        row[i] = entry_of(o, i);
-        i += 1;
+    // By index: `copy_from_slice` asks the linker for memmove.
+    for i in 0..row.len() {
+        row[i] = entries[i];
     }
 }

@@ -1,6 +1,5 @@
 // The first half of a round: every sound column speaks. What it says lies in the mail, by the sender's number.
-ghost use Rattle.std.specs.Prelude.{◌≡◌, ◌++◌, ◌+◌, ◌*◌, ◌≤◌, ◌<◌, length, take, drop, replicate};
-ghost use Rattle.field.specs.Field.{blank};
+ghost use Rattle.std.specs.Prelude.{◌≡◌, ◌++◌, ◌+◌, ◌*◌, ◌≤◌, ◌<◌, length, take, drop};
 ghost use Rattle.lists.specs.Lists.{list_of};
 ghost use Rattle.messages.specs.Messages.{said};
 ghost use Rattle.sheet.specs.Sheet.{columns};
@@ -9,17 +8,6 @@ ghost use Rattle.wall_run.specs.Speaking.{Space};
 
 use crate::space;
 use agreement::Column;
-use field::Field;
-
-// Blanks all over the mail.
-pub(super) fn clear(mail: &mut [u16])
-    ensures { mail.new ≡ replicate (length mail.old) blank }
-{
-    let len = mail.len();
-    for p in 0..len {
-        mail[p] = Field::BLANK;
-    }
-}
 
 // Column j + 1 speaks into the front of its part of the mail, if it is sound.
 fn say(sheet: &[u8], width: u16, j: u8, column: Column, part: &mut [u16]) -> Column
@@ -31,11 +19,10 @@ fn say(sheet: &[u8], width: u16, j: u8, column: Column, part: &mut [u16]) -> Col
         return column;
     }
     let len = space::of_one(sheet, width);
-    let answered = calls::speak(column, &mut part[..len]);
-    answered.column
+    calls::speak(column, &mut part[..len]).unwrap_or(column)
 }
 
-// All columns speak; the mail was blank.
+// All columns speak; the mail was blank. By number, which says who speaks, and where in the mail.
 pub(super) fn speak_all(
     sheet: &[u8],
     width: u16,
@@ -48,9 +35,8 @@ pub(super) fn speak_all(
     let n = sheet::columns(sheet);
     for j in 0..n {
         let i = j as usize;
-        let column = wall[i];
         let at = space::of_many(sheet, width, j);
-        wall[i] = say(sheet, width, j, column, &mut mail[at..]);
+        wall[i] = say(sheet, width, j, wall[i], &mut mail[at..]);
     }
     wall
 }

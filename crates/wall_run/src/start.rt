@@ -1,21 +1,11 @@
 // The columns of a wall before the first round.
 ghost use Rattle.std.specs.Prelude.{◌≡◌, ◌<◌};
-ghost use Rattle.agreement.specs.Calls.{no_column};
 ghost use Rattle.sheet.specs.Sheet.{columns};
 ghost use Rattle.sheet.specs.Laws.{Arrays};
 ghost use Rattle.wall_run.specs.Run.{made as made_of, start as start_of};
 
 use agreement::Column;
 use protocols::Protocol;
-
-// What stands in the places past n: a column of no wall, as a refused call to make one leaves it.
-fn no_column() -> Column
-    ensures { result ≡ no_column }
-{
-    let record = [0u8; 1];
-    let answered = calls::fresh(Protocol::Agreement, 0, 0, 0, &record);
-    answered.column
-}
 
 // Column i + 1, with its record of the sheet.
 fn made(protocol: Protocol, sheet: &[u8], i: u8) -> Column
@@ -26,18 +16,16 @@ fn made(protocol: Protocol, sheet: &[u8], i: u8) -> Column
     let m = sheet::bytes(sheet);
     let at = sheet::record_place(n, m, i);
     let end = at + m as usize;
-    let answered = calls::fresh(protocol, n, m, i + 1, &sheet[at..end]);
-    answered.column
+    calls::fresh(protocol, n, m, i + 1, &sheet[at..end]).unwrap_or(calls::no_column())
 }
 
-// All columns.
+// All columns. By number, which each is made with.
 pub(super) fn start(protocol: Protocol, sheet: &[u8]) -> [Column; 31]
     requires { Arrays sheet.now }
     ensures { result ≡ start_of protocol sheet.now }
 {
     let n = sheet::columns(sheet);
-    let none = no_column();
-    let mut wall = [none; 31];
+    let mut wall = [calls::no_column(); 31];
     for i in 0..n {
         let at = i as usize;
         wall[at] = made(protocol, sheet, i);

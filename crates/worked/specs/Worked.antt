@@ -10,7 +10,7 @@ use Rattle.protocols.specs.Protocols.{width, phase, phases_from, kinds, rounds_i
 use Rattle.messages.specs.Messages.{read_point, read_report, read_bit, read_byte, said, from, word as word_at, refusal as refusal_of_length, unless_refused, heard, heard_from, heard_of_all, times}
 use Rattle.codeword.specs.Codeword.{point, values as values_at}
 use Rattle.decoder.specs.Decoder.{decoded, found, seek, through, under, slopes, answer_of, polynomial_of, coefficients}
-use Rattle.decoder.specs.declared.Decoded.TheVariants.{Polynomial, Nothing}
+use Rattle.decoder.specs.Decoder.{Polynomial, Nothing}
 use Rattle.king.specs.King.{bits, chosen, proposal, settled, firm, word, crowned}
 use Rattle.dispersal.specs.Dispersal.{exchange, agrees_in, agrees_with, agreement_at, agreements, agrees, first_quorum, first_report, report_at, reports, reported, both, second_quorum, second_report, read_reports, grade}
 use Rattle.dissemination.specs.Dissemination.{spoken, points_in, points, least, often, kept_point, kept_at, kept_points, point_at, block_of, there, coefficient, is_byte, is_block, byte_at, record_of}

@@ -10,7 +10,7 @@ loop-i-init c = filled_none _ _ _ (omega arith)
 
 pub loop-i-preserved : goal.loop-i-preserved
 unfolding word_at
-loop-i-preserved c = filled_more _ _ _ _ _ _ c.loop-i.invariant (omega arith) (c.behind.ensures ∙ behind_zero _ _)
+loop-i-preserved c = filled_more _ _ _ _ _ _ c.loop-i.invariant (omega (arith, c.loop-i.invariant.same, c.loop-i-test.true)) (c.behind.ensures ∙ behind_zero _ _)
 
 pub returns : goal.returns
-returns c = filled_done _ _ _ _ _ c.loop-i.invariant (omega arith) (omega arith)
+returns c = filled_done _ _ _ _ _ c.loop-i.invariant (omega (arith, c.loop-i.invariant.same, c.loop-i-test.false)) (omega arith)

@@ -1,10 +1,9 @@
 -- `outcome` meets its contract.
-use Rattle.calls.specs.Answers.{replied_refused, replied_ended}
+use Rattle.calls.specs.Answers.{told_refused, told_done}
 use Rattle.calls.proofs.outcome.Goals as goal
 
-pub returns-then-why-ne0 : goal.returns-then-why-ne0
-returns-then-why-ne0 c = replied_refused _ _ c.to_ask-why.ensures c.if-why-ne0.true _ c.grade_shown.ensures
+pub returns-in_err-to_ask : goal.returns-in_err-to_ask
+returns-in_err-to_ask c = told_refused _ _ _ c.from_residual.ensures.1 c.in_err-to_ask.ensures
 
 pub returns : goal.returns
-returns c =
-    replied_ended _ _ c.to_ask-why.ensures c.if-why-ne0.false _ _ _ c.ending-ended.ensures c.grade_shown-2.ensures c.shown.ensures
+returns c = told_done _ c.in_ok-to_ask.ensures _ c.record.ensures.0 c.record.ensures.1

@@ -1,6 +1,8 @@
 -- `rows` meets its contract.
 use Rattle.std.proofs.Common.{◌∙◌, arith}
 use Rattle.lists.specs.Loops.{rowed_none, rowed_fits, rowed_more, rowed_room, rowed_done}
+use Rattle.sizes.proofs.Refusals.{there}
+use Rattle.messages.proofs.Laws.{has_room}
 use Rattle.codeword.specs.Words.{row_written}
 use Rattle.codeword.proofs.rows.Goals as goal
 
@@ -18,6 +20,9 @@ slice_bounds-write-count c = omega (arith, rowed_fits _ _ _ _ _ _ c.loop-k.invar
 
 pub slice_bounds-write-start : goal.slice_bounds-write-start
 slice_bounds-write-start c = omega (arith, rowed_fits _ _ _ _ _ _ c.loop-k.invariant (omega arith))
+
+pub unwrap-requires : goal.unwrap-requires
+unwrap-requires c = there _ (c.write.ensures.0 ∙ has_room _ _ (rowed_room _ _ _ _ _ _ _ c.loop-k.invariant (omega arith) (omega arith)))
 
 pub loop-k-preserved : goal.loop-k-preserved
 loop-k-preserved c =

@@ -17,7 +17,7 @@ loop-k-init c = filled_none _ _ _ (omega arith)
 
 pub value-requires : goal.value-requires
 value-requires c =
-    (omega arith, omega (arith, c.degree.ensures, (sized c.args.n c.args.m (accepted c.args.n c.args.m 1 c.requires).range).degree_high))
+    (omega arith, omega (arith, c.degree.ensures, (sized c.args.n c.args.m (accepted c.args.n c.args.m 1 c.requires).range).degree_high), omega arith)
 
 pub loop-k-preserved : goal.loop-k-preserved
 loop-k-preserved c = filled_more _ _ _ _ _ _ c.loop-k.invariant (omega arith) (c.value.ensures ∙ value_in_lem _ _ _ _ _ _ _ c.blocks-b.ensures (ap (λ (d : ℕ). d + 1) c.degree.ensures))

@@ -1,20 +1,20 @@
 -- `decode` meets its contract.
 use Rattle.std.proofs.Common.{ap, sym, ◌∙◌}
-use Rattle.decoder.specs.declared.Decoded.TheVariants.{Refused}
+use Rattle.sizes.proofs.Refusals.{some, handed_on}
+use Rattle.decoder.specs.Decoder.{Refused, decoded_in}
 use Rattle.decoder.proofs.Exactly.{refused_columns, refused_points, accepts_of}
 use Rattle.decoder.proofs.decode.Goals as goal
 
-pub returns-then-why-ne0 : goal.returns-then-why-ne0
-returns-then-why-ne0 c =
+pub returns-in_err-refusal : goal.returns-in_err-refusal
+returns-in_err-refusal c =
     let a = c.args in
-    let r = c.refusal-why in
-    ap Refused r.ensures ∙ sym (refused_columns a.n a.points.now (λ e. c.if-why-ne0.true (r.ensures ∙ e)))
+    let e = c.in_err-refusal.ensures in
+    ap decoded_in (handed_on _ c.from_residual.result c.from_residual.ensures.1) ∙ ap Refused e ∙ sym (refused_columns a.n a.points.now (λ z. some _ (e ∙ z)))
 
 pub returns-then-points-n : goal.returns-then-points-n
 returns-then-points-n c =
     let a = c.args in
-    sym (refused_points a.n a.points.now (sym c.refusal-why.ensures ∙ c.if-why-ne0.false) c.if-points-n.true)
+    sym (refused_points a.n a.points.now (sym c.in_ok-refusal.ensures) c.if-points-n.true)
 
 pub answer-requires : goal.answer-requires
-answer-requires c =
-    accepts_of _ _ (sym c.refusal-why.ensures ∙ c.if-why-ne0.false) c.if-points-n.false
+answer-requires c = accepts_of _ _ (sym c.in_ok-refusal.ensures) c.if-points-n.false

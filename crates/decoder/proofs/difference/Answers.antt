@@ -2,4 +2,4 @@
 use Rattle.decoder.proofs.difference.Goals as goal
 
 pub returns : goal.returns
-returns c = rw (c.subtract-s.ensures, c.multiply.ensures)
+returns c = rw (c.subtract.ensures, c.multiply.ensures)

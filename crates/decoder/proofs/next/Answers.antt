@@ -1,19 +1,17 @@
 -- `next` meets its contract.
-use Rattle.std.proofs.Common.{sym, arith, ◌∙◌}
-use Rattle.decoder.specs.Steps.{passed_none, passed_more, passed_found, passed_all}
+use Rattle.std.proofs.Common.{◌≡◌, true, false, arith, rules}
+use Rattle.std.proofs.iter.Serving.{serving}
+use Rattle.std.proofs.lemmas.Iterator.{first_from_Range}
+use Rattle.decoder.specs.Places.{usable as usable_of}
+use Rattle.decoder.specs.Steps.{next_is}
 use Rattle.decoder.proofs.next.Goals as goal
 
-pub loop-x-init : goal.loop-x-init
-loop-x-init c = passed_none _ _
-
-pub usable-requires : goal.usable-requires
-usable-requires c = (omega (arith, c.loop-x.invariant.later, c.requires.0), omega arith)
-
-pub returns-then-usable : goal.returns-then-usable
-returns-then-usable c = passed_found _ _ _ c.loop-x.invariant (sym c.usable.ensures ∙ c.if-usable.true)
-
-pub loop-x-preserved : goal.loop-x-preserved
-loop-x-preserved c = passed_more _ _ _ c.loop-x.invariant c.requires.0 (omega arith) (sym c.usable.ensures ∙ c.if-usable.false)
+pub find-requires : goal.find-requires
+find-requires c = grind (serving, arith)
 
 pub returns : goal.returns
-returns c = passed_all _ _ _ c.loop-x.invariant (omega arith)
+returns c =
+    let a = c.args in
+    let first = first_from_Range _ _ _ _ (λ x. usable_of a.points.now a.es.now x ≡ true) (λ x. usable_of a.points.now a.es.now x ≡ false) c.find.ensures.ran
+    (λ x q k. search rules) (λ x q k. (search rules, search rules)) in
+    rw (c.unwrap_or.ensures, c.max.ensures) (next_is _ _ c.requires.0 c.find.result first)

@@ -5,19 +5,19 @@ use Rattle.locator.specs.Held.{running_none, running_more, running_held, running
 use Rattle.locator.proofs.locate.Goals as goal
 
 pub loop-j-init : goal.loop-j-init
-loop-j-init c = running_none _ _ _ _ c.start_first-first.ensures c.start_second-second.ensures
+loop-j-init c = running_none _ _ _ _ c.start_first.ensures c.start_second.ensures
 
-pub turn-next-requires : goal.turn-next-requires
-turn-next-requires c =
+pub turn-requires : goal.turn-requires
+turn-requires c =
     let l = c.loop-j in
-    let h = running_held _ _ _ _ _ _ l.invariant in
-    (omega arith, omega (arith, h.first_light), omega (arith, h.second_light), h.first_held, h.second_held)
+    let h = running_held _ _ _ _ _ l.invariant in
+    (omega arith, omega (arith, h.first_light), omega (arith, h.second_light))
 
 pub loop-j-preserved : goal.loop-j-preserved
-loop-j-preserved c = running_more _ _ _ _ _ _ c.loop-j.invariant _ _ _ _ (omega arith) c.value.ensures c.turn-next.ensures
+loop-j-preserved c = running_more _ _ _ _ _ c.loop-j.invariant _ _ _ (omega arith) c.value.ensures c.turn.ensures
 
-pub returns-then-weights : goal.returns-then-weights
-returns-then-weights c = sym (running_done _ _ _ _ _ _ c.loop-j.invariant (omega arith) ∙ simp (le-leb _ _ c.if-weights.true))
+pub returns-then-first-second : goal.returns-then-first-second
+returns-then-first-second c = sym (running_done _ _ _ _ _ c.loop-j.invariant (omega arith) ∙ simp (le-leb _ _ c.if-first-second.true))
 
 pub returns : goal.returns
-returns c = sym (running_done _ _ _ _ _ _ c.loop-j.invariant (omega arith) ∙ simp (lt-leb _ _ c.if-weights.false))
+returns c = sym (running_done _ _ _ _ _ c.loop-j.invariant (omega arith) ∙ simp (lt-leb _ _ c.if-first-second.false))

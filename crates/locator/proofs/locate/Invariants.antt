@@ -3,4 +3,4 @@ use Rattle.locator.specs.Held.{Running}
 use Rattle.locator.proofs.locate.Given as goal
 
 abbrev pub invariant-loop-j : goal.invariant-loop-j
-invariant-loop-j l = Running l.weight l.points l.first l.second l.weights l.j
+invariant-loop-j l = Running l.weight l.points l.first l.second l.j

@@ -7,7 +7,7 @@ use Rattle.locator.specs.Locator.{raised_at, raised}
 use Rattle.locator.proofs.raise.Goals as goal
 
 pub loop-i-init : goal.loop-i-init
-loop-i-init c = (c.subtract-minus.ensures, filled_none _ _ _ (omega (arith, c.requires.size)))
+loop-i-init c = (c.subtract-minus.ensures, filled_none _ _ _ (omega (arith, c.well_formed)))
 
 pub loop-i-preserved : goal.loop-i-preserved
 unfolding raised_at
@@ -19,9 +19,9 @@ loop-i-preserved c =
       l.invariant.0,
       filled_more _ _ _ _ _ _ l.invariant.1 (omega arith)
           (c.raised_at.ensures ∙ ap₂ {C = ℕ} (λ (m : Field) v. multiply (add x m.0) v) l.invariant.0 (filled_read _ _ _ _ l.i 0 l.invariant.1)
-          ∙ ap (λ (f : ℕ). multiply f (get_or c.args.lead.now l.i 0)) factor),
+          ∙ ap (λ (f : ℕ). multiply f (get_or c.args.numbers.now l.i 0)) factor),
     )
 
 pub returns : goal.returns
 unfolding raised
-returns c = filled_done _ _ _ _ _ c.loop-i.invariant.1 (omega arith) (omega (arith, c.requires.size))
+returns c = filled_done _ _ _ _ _ c.loop-i.invariant.1 (omega arith) (omega (arith, c.well_formed))

@@ -10,6 +10,6 @@ alone p = omega arith
 pub returns : goal.returns
 returns c =
     let a = c.args in
-    ap (λ (v : Field). v.0) c.add_products-product.ensures
+    ap (λ (v : Field). v.0) c.add_products.ensures
     ∙ ap (λ (f : Field). add (multiply f.0 a.v) (multiply 0 0)) c.add-factor.ensures
     ∙ alone _

@@ -13,4 +13,4 @@ pub returns : goal.returns
 unfolding second_at
 returns c =
     simp (le-ltb _ _ c.if-i-lt32.false)
-    (ap (λ (f : Field). f.0) c.subtract-negated.ensures ∙ ap (λ (z : ℕ). subtract 0 z) c.value.ensures)
+    (ap (λ (f : Field). f.0) c.subtract.ensures ∙ ap (λ (z : ℕ). subtract 0 z) c.value.ensures)

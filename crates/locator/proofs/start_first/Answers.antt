@@ -1,13 +1,7 @@
 -- `start_first` meets its contract.
-use Rattle.std.proofs.Common.{arith}
-use Rattle.lists.specs.Loops.{filled_none, filled_more, filled_done}
+use Rattle.std.proofs.Common.{rules}
+use Rattle.lists.specs.Library.{list_of_at}
 use Rattle.locator.proofs.start_first.Goals as goal
 
-pub loop-i-init : goal.loop-i-init
-loop-i-init c = filled_none _ _ _ (omega arith)
-
-pub loop-i-preserved : goal.loop-i-preserved
-loop-i-preserved c = filled_more _ _ _ _ _ _ c.loop-i.invariant (omega arith) c.first_at.ensures
-
 pub returns : goal.returns
-returns c = filled_done _ _ _ _ _ c.loop-i.invariant (omega arith) (omega arith)
+returns c = list_of_at _ _ 0 _ c.from_fn.ensures.items.long (λ i h. let k = c.from_fn.ensures.items.at i 0 h in search rules)

@@ -4,4 +4,4 @@ use Rattle.messages.specs.Messages.{said}
 use Rattle.messages.proofs.write_past.Given as goal
 
 abbrev pub invariant-loop-k : goal.invariant-loop-k
-invariant-loop-k l = Filled (said l.message) l.w l.initial.part l.part l.k
+invariant-loop-k l = Filled (said l.message) l.w l.initial.x-items l.x-items l.k

@@ -1,20 +1,24 @@
 -- `outcomes_of` meets its contract.
-use Rattle.std.proofs.Common.{sym, ap, ap₂, ◌∙◌, replicate}
-use Rattle.wall_run.specs.declared.Outcomes.{Outcomes}
-use Rattle.wall_run.specs.Run.{in_places, settled, refused}
+use Rattle.std.proofs.Common.{Ok, List, sym, ap, ◌∙◌}
+use Rattle.sizes.proofs.Refusals.{some, handed_on}
+use Rattle.sheet.specs.Sheet.{columns}
+use Rattle.agreement.specs.declared.Entry.{Entry}
+use Rattle.wall_run.specs.Run.{in_places, settled, refused, outcomes_in}
 use Rattle.wall_run.specs.Row.{accepted_run, run_refused, run_settled}
 use Rattle.wall_run.proofs.outcomes_of.Goals as goal
 
-pub returns-then-why-ne0 : goal.returns-then-why-ne0
-unfolding refused
-returns-then-why-ne0 c = sym (run_refused c.args.protocol c.args.sheet.now c.args.rows (λ z. c.if-why-ne0.true (c.refusal-why.ensures ∙ z)) ∙ ap₂ {C = Outcomes} (λ why none. record { refusal = why; count = 0; entries = replicate 31 none }) (sym c.refusal-why.ensures) (sym c.mark_only-none.ensures))
+pub returns-in_err-refusal : goal.returns-in_err-refusal
+returns-in_err-refusal c = let a = c.args in
+    let e = c.in_err-refusal.ensures in
+    ap (outcomes_in (columns a.sheet.now)) (handed_on _ _ c.from_residual.ensures.1) ∙ ap refused e ∙ sym (run_refused a.protocol a.sheet.now a.rows (λ z. some _ (e ∙ z)))
 
 pub ended-wall-requires : goal.ended-wall-requires
-ended-wall-requires c = (accepted_run c.args.protocol c.args.sheet.now c.args.rows (sym c.refusal-why.ensures ∙ c.if-why-ne0.false)).0.arrays_there
+ended-wall-requires c = (accepted_run c.args.protocol c.args.sheet.now c.args.rows (sym c.in_ok-refusal.ensures)).0.arrays_there
 
-pub all-entries-requires : goal.all-entries-requires
-all-entries-requires c = (accepted_run c.args.protocol c.args.sheet.now c.args.rows (sym c.refusal-why.ensures ∙ c.if-why-ne0.false)).0.arrays_there.range.columns_high
+pub all-requires : goal.all-requires
+all-requires c = (accepted_run c.args.protocol c.args.sheet.now c.args.rows (sym c.in_ok-refusal.ensures)).0.arrays_there.range.columns_high
 
 pub returns : goal.returns
 unfolding settled
-returns c = sym (run_settled c.args.protocol c.args.sheet.now c.args.rows (sym c.refusal-why.ensures ∙ c.if-why-ne0.false) ∙ ap₂ {C = Outcomes} (λ n es. record { refusal = 0; count = n; entries = es }) (sym c.columns.ensures) (sym (c.all-entries.ensures ∙ ap (in_places c.args.sheet.now) c.ended-wall.ensures)))
+returns c = let a = c.args in
+    ap (λ (es : List Entry). outcomes_in (columns a.sheet.now) (Ok es)) (c.all.ensures ∙ ap (in_places a.sheet.now) c.ended-wall.ensures) ∙ sym (run_settled a.protocol a.sheet.now a.rows (sym c.in_ok-refusal.ensures))

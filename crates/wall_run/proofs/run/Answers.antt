@@ -1,20 +1,20 @@
 -- `run` meets its contract.
-use Rattle.std.proofs.Common.{◌∙◌, ◌≤◌, ap, length, subst, sym}
-use Rattle.wall_run.specs.declared.Outcomes.{Outcomes}
-use Rattle.wall_run.specs.Row.{filled, outcomes_refusal, outcomes_fit, filled_is}
+use Rattle.std.proofs.Common.{◌∙◌, sym, arith}
+use Rattle.sizes.proofs.Refusals.{passed}
+use Rattle.wall_run.specs.Row.{accepted_run, refused_with, settled_with, row_refused, row_filled}
 use Rattle.wall_run.proofs.run.Goals as goal
 
-pub fill-requires : goal.fill-requires
-fill-requires c =
-    let a = c.args in
-    let rows = length a.row.now in
-    subst (λ (o : Outcomes). (o.count ≤ rows) × (o.count ≤ 31)) (sym c.outcomes_of-o.ensures) (outcomes_fit a.protocol a.sheet.now rows)
+pub returns-in_err-entries : goal.returns-in_err-entries
+returns-in_err-entries c =
+    let p = passed _ c.from_residual.result c.from_residual.ensures.1 (refused_with _ _ _ _ c.in_err-entries.ensures) in
+    (p.0, row_refused _ _ _ p.1)
+
+pub write-requires : goal.write-requires
+write-requires c =
+    let a = (accepted_run _ _ _ (settled_with _ _ _ _ _ c.in_ok-entries.ensures).0).0 in
+    omega (arith, a.rows_are, a.arrays_there.range.columns_high)
 
 pub returns : goal.returns
-unfolding filled
 returns c =
-    let a = c.args in
-    let o = c.outcomes_of-o.ensures in (
-      ap (λ (o : Outcomes). o.refusal) o ∙ outcomes_refusal a.protocol a.sheet.now (length a.row.now),
-      c.fill.ensures ∙ ap (λ (o : Outcomes). filled o a.row.now) o ∙ filled_is a.protocol a.sheet.now a.row.now,
-    )
+    let s = settled_with _ _ _ _ _ c.in_ok-entries.ensures in
+    (sym s.0, c.write.ensures ∙ row_filled _ _ _ _ s.0 s.1)

@@ -1,14 +1,17 @@
 -- `exchange::agreements` meets its contract.
-use Rattle.std.proofs.Common.{sym, ◌∙◌}
+use Rattle.std.proofs.Common.{sym}
+use Rattle.sizes.proofs.Refusals.{passed_on}
 use Rattle.messages.proofs.Laws.{accepted as messages_accepted}
-use Rattle.dispersal.specs.Laws.{agreed_refused, agreed_done}
+use Rattle.dispersal.specs.Dispersal.{agreements}
 use Rattle.dispersal.proofs.exchange.agreements.Goals as goal
 
-pub returns-then-why-ne0 : goal.returns-then-why-ne0
-returns-then-why-ne0 c = agreed_refused _ _ _ _ _ _ c.refusal-why.ensures c.if-why-ne0.true
+pub returns-in_err-refusal : goal.returns-in_err-refusal
+returns-in_err-refusal c =
+    let a = c.args in
+    passed_on _ (agreements a.n a.m a.own a.bytes a.inbox.now) c.from_residual.result c.from_residual.ensures.1 c.in_err-refusal.ensures
 
-pub flags-heard-requires : goal.flags-heard-requires
-flags-heard-requires c = let h = messages_accepted _ _ _ _ (sym c.refusal-why.ensures ∙ c.if-why-ne0.false) in (h.0, sym h.1)
+pub flags-requires : goal.flags-requires
+flags-requires c = let h = messages_accepted _ _ _ _ (sym c.in_ok-refusal.ensures) in (h.0, sym h.1)
 
 pub returns : goal.returns
-returns c = agreed_done _ _ _ _ _ _ c.refusal-why.ensures _ c.if-why-ne0.false c.flags-heard.ensures
+returns c = (c.in_ok-refusal.ensures, c.flags.ensures)

@@ -3,12 +3,16 @@ use Rattle.std.proofs.Common.{refl, replicate, ◌∙◌, arith}
 use Rattle.lists.specs.Loops.{rowed_none, rowed_fits, rowed_more, rowed_room, rowed_done}
 use Rattle.field.specs.Field.{blank}
 use Rattle.sizes.proofs.Laws.{blocks_le, accepted, few_blocks, column_of_lem}
-use Rattle.codeword.specs.Words.{codewords_in, length_codewords}
+use Rattle.sizes.proofs.Refusals.{there}
+use Rattle.codeword.specs.Words.{codewords_accepted, codewords_in, length_written}
 use Rattle.dispersal.specs.Laws.{paired_is}
 use Rattle.dispersal.proofs.exchange.send_all.Goals as goal
 
 pub overflow_cast-b : goal.overflow_cast-b
 overflow_cast-b c = record { fits = omega (arith, c.blocks-b.ensures, blocks_le c.args.n c.args.m) }
+
+pub unwrap-requires : goal.unwrap-requires
+unwrap-requires c = there _ (c.codewords.ensures.0 ∙ codewords_accepted _ _ _ (replicate 1024 blank) c.requires.0 refl)
 
 pub loop-j-init : goal.loop-j-init
 loop-j-init c = rowed_none _ _ _ _ (rw c.blocks-b.ensures c.requires.1)
@@ -34,7 +38,7 @@ send_one-requires c =
     let few = few_blocks c.args.n c.args.m c.args.own c.requires.0 in (
       column_of_lem c.args.n c.args.m c.args.own c.args.own c.requires.0 a.number_low a.number_high,
       column_of_lem c.args.n c.args.m c.args.own _ c.requires.0 (omega arith) (omega arith),
-      rw (c.codewords.ensures.1, codewords_in c.args.n c.args.m c.args.own c.args.bytes _ c.requires.0 refl, length_codewords c.args.n c.args.m c.args.bytes) (omega (arith, few, c.blocks-b.ensures)),
+      omega (arith, few, c.blocks-b.ensures, length_written _ _ _ _ (replicate 1024 blank) _ c.requires.0 refl c.codewords.ensures.1),
       rowed_room _ _ _ _ _ _ _ c.loop-j.invariant (omega arith) (omega (arith, c.place-at.ensures)),
     )
 

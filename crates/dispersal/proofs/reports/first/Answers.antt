@@ -16,7 +16,7 @@ unfolding first_report first_quorum
 returns-then-n-faults c = let a = c.args in
     simp (le-leb (a.n - faults a.n) (count (agrees a.agreements) a.n) (omega (arith, c.if-n-faults.true, c.faults.ensures, c.in_both.ensures, both_self a.agreements a.n)))
 
-pub returns : goal.returns
+pub returns-else-n-faults : goal.returns-else-n-faults
 unfolding first_report first_quorum
-returns c = let a = c.args in
+returns-else-n-faults c = let a = c.args in
     simp (lt-leb (a.n - faults a.n) (count (agrees a.agreements) a.n) (omega (arith, c.if-n-faults.false, c.faults.ensures, c.in_both.ensures, both_self a.agreements a.n)))

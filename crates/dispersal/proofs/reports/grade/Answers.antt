@@ -20,7 +20,7 @@ unfolding grade
 returns-then-faults-times c = let a = c.args in
     simp (sym c.sends_second.ensures ∙ c.if-not-sends_second.false, le-leb (2 * faults a.n + 1) (times (read_reports (from a.values)) 1 a.n) (omega (arith, c.if-faults-times.true, c.faults.ensures, c.times.ensures, times_reports (from a.values) a.n)))
 
-pub returns : goal.returns
+pub returns-else-faults-times : goal.returns-else-faults-times
 unfolding grade
-returns c = let a = c.args in
+returns-else-faults-times c = let a = c.args in
     simp (sym c.sends_second.ensures ∙ c.if-not-sends_second.false, lt-leb (2 * faults a.n + 1) (times (read_reports (from a.values)) 1 a.n) (omega (arith, c.if-faults-times.false, c.faults.ensures, c.times.ensures, times_reports (from a.values) a.n)))

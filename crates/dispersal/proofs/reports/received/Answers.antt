@@ -24,4 +24,4 @@ loop-i-preserved c = let l = c.loop-i in
 
 pub returns : goal.returns
 unfolding reports
-returns c = filled_rest _ _ _ _ _ false c.loop-i.invariant.0 (omega arith) (λ j a b. get_or-replicate 31 j false false b ∙ no_report _ _ j (omega (arith, c.places-last.ensures.2 (omega arith))))
+returns c = filled_rest _ _ _ _ _ false c.loop-i.invariant.0 (omega arith) (λ j a b. get_or-replicate 31 j false false b ∙ no_report _ _ j (omega (arith, c.min-i-end.ensures)))

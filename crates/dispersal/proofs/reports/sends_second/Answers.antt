@@ -1,5 +1,5 @@
 -- `reports::sends_second` meets its contract.
-use Rattle.std.proofs.Common.{◌∙◌, ◌-◌, arith, le-leb}
+use Rattle.std.proofs.Common.{refl, ◌∙◌, ◌-◌, arith, le-leb}
 use Rattle.std.proofs.lemmas.Bool.{lt-leb}
 use Rattle.lists.specs.Lists.{count}
 use Rattle.sizes.specs.Sizes.{faults}
@@ -15,7 +15,7 @@ unfolding second_quorum
 returns-then-n-faults c = let a = c.args in
     c.flag_of.ensures ∙ simp (le-leb (a.n - faults a.n) (count (both (agrees a.agreements.now) (reported a.reports.now)) a.n) (omega (arith, c.if-n-faults.true, c.faults.ensures, c.in_both.ensures)))
 
-pub returns : goal.returns
+pub returns-else-n-faults : goal.returns-else-n-faults
 unfolding second_quorum
-returns c = let a = c.args in
-    simp (lt-leb (a.n - faults a.n) (count (both (agrees a.agreements.now) (reported a.reports.now)) a.n) (omega (arith, c.if-n-faults.false, c.faults.ensures, c.in_both.ensures)))
+returns-else-n-faults c = let a = c.args in
+    rw (c.faults.ensures, c.in_both.ensures, lt-leb (a.n - faults a.n) (count (both (agrees a.agreements.now) (reported a.reports.now)) a.n) (omega (arith, c.if-n-faults.false, c.faults.ensures, c.in_both.ensures))) refl

@@ -1,21 +1,10 @@
 -- `decoding::decode_blocks` meets its contract.
-use Rattle.std.proofs.Math.Option.{none}
-use Rattle.std.proofs.Common.{◌≡◌, ◌∙◌, refl, sym, ap, not, mul-le-mul, arith, ℕ, ◌+◌}
-use Rattle.sizes.proofs.Laws.{accepted, blocks_le, degree_le, few_blocks}
-use Rattle.decoder.specs.declared.Coefficients.{Coefficients}
-use Rattle.decoder.specs.declared.Decoded.{Decoded}
-use Rattle.decoder.specs.declared.Decoded.TheVariants.{Polynomial, Nothing, Refused}
+use Rattle.std.proofs.Common.{◌∙◌, sym, ap, not, mul-le-mul, arith, ◌+◌}
+use Rattle.sizes.proofs.Laws.{blocks_le, degree_le, few_blocks, columns_of}
 use Rattle.decoder.specs.Decoder.{polynomial_of}
 use Rattle.dissemination.specs.Decoding.{answer_in}
 use Rattle.dissemination.proofs.Decoded.{block_missing, block_bytes, done_none, done_more, decodes_none, decodes_all}
 use Rattle.dissemination.proofs.decoding.decode_blocks.Goals as goal
-
--- an answer that is no polynomial
-missed : (n : ℕ) (d e : Decoded) → d ≡ e → ((c : Coefficients) → d ≡ Polynomial c → ⊥) → polynomial_of n e ≡ none
-unfolding polynomial_of
-missed n (Polynomial c) e q h = absurd (h c refl)
-missed n Nothing e q h = rw (← q) refl
-missed n (Refused r) e q h = rw (← q) refl
 
 pub overflow_cast-b : goal.overflow_cast-b
 overflow_cast-b c = record { fits = omega (arith, c.blocks-b.ensures, blocks_le c.args.n c.args.m) }
@@ -30,13 +19,13 @@ pub loop-k-init : goal.loop-k-init
 loop-k-init c = done_none _ _ _ _ (omega (arith, few_blocks c.args.n c.args.m c.args.own c.requires))
 
 pub block-requires : goal.block-requires
-block-requires c = (accepted _ _ _ c.requires).range.columns_high
+block-requires c = columns_of _ _ _ c.requires
 
 pub returns-in_default : goal.returns-in_default
-unfolding answer_in
+unfolding answer_in polynomial_of
 returns-in_default c = let a = c.args in
-    decodes_none a.n a.m _ c.loop-k.k _ (omega (arith, c.blocks-b.ensures))
-    (block_missing a.n a.m _ c.loop-k.k (missed a.n _ _ (rw c.blocks-b.ensures at c.block.ensures) c.in_default.not-Polynomial))
+    decodes_none a.n a.m _ c.loop-k.k (omega (arith, c.blocks-b.ensures))
+    (block_missing a.n a.m _ c.loop-k.k (ap (polynomial_of a.n) (sym (rw c.blocks-b.ensures at c.in_default.ensures))))
 
 pub overflow_mul-k : goal.overflow_mul-k
 overflow_mul-k c = record { fits = omega (arith, mul-le-mul {n₁ = c.loop-k.k} {m₁ = c.degree.result + 1} {n₂ = 255} {m₂ = 255} (omega (arith, c.blocks-b.ensures, blocks_le c.args.n c.args.m)) (omega (arith, c.degree.ensures, degree_le c.args.n))) }
@@ -44,8 +33,8 @@ overflow_mul-k c = record { fits = omega (arith, mul-le-mul {n₁ = c.loop-k.k} 
 pub returns-then-not-are_bytes : goal.returns-then-not-are_bytes
 unfolding answer_in
 returns-then-not-are_bytes c = let a = c.args in
-    decodes_none a.n a.m _ c.loop-k.k _ (omega (arith, c.blocks-b.ensures))
-    (block_bytes a.n a.m _ c.loop-k.k _ (sym (rw c.blocks-b.ensures at c.block.ensures) ∙ c.in-Polynomial.is)
+    decodes_none a.n a.m _ c.loop-k.k (omega (arith, c.blocks-b.ensures))
+    (block_bytes a.n a.m _ c.loop-k.k _ (sym (rw c.blocks-b.ensures at c.in-Some.ensures))
     ∙ sym (rw c.degree.ensures at c.are_bytes.ensures) ∙ c.if-not-are_bytes.true)
 
 pub overflow_cast-at : goal.overflow_cast-at
@@ -90,7 +79,7 @@ bounds-coefficients-at-in-loop-k-3 c = omega (arith, c.blocks-b.ensures, few_blo
 pub loop-k-preserved : goal.loop-k-preserved
 unfolding answer_in
 loop-k-preserved c = let a = c.args in
-    let e = sym (rw c.blocks-b.ensures at c.block.ensures) ∙ c.in-Polynomial.is in
+    let e = sym (rw c.blocks-b.ensures at c.in-Some.ensures) in
     done_more a.n a.m _ _ _ c.loop-k.k _ _ c.loop-k.invariant (omega (arith, c.blocks-b.ensures)) e
     ((rw c.degree.ensures at c.are_bytes.ensures) ∙ sym (block_bytes a.n a.m _ c.loop-k.k _ e)) (ap not c.if-not-are_bytes.false)
 

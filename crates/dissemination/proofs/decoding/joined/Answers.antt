@@ -1,16 +1,11 @@
 -- `decoding::joined` meets its contract.
-use Rattle.std.proofs.Common.{arith}
-use Rattle.lists.specs.Loops.{filled_none, filled_more, filled_done}
+use Rattle.std.proofs.Common.{rules, arith}
+use Rattle.std.proofs.iter.Serving.{serving}
+use Rattle.lists.specs.Library.{list_of_at}
 use Rattle.dissemination.proofs.decoding.joined.Goals as goal
 
-pub loop-p-init : goal.loop-p-init
-loop-p-init c = filled_none _ _ _ (omega arith)
-
-pub byte_at-requires : goal.byte_at-requires
-byte_at-requires c = c.requires
-
-pub loop-p-preserved : goal.loop-p-preserved
-loop-p-preserved c = filled_more _ _ _ _ _ _ c.loop-p.invariant (omega arith) c.byte_at.ensures
+pub from_fn-requires : goal.from_fn-requires
+from_fn-requires c = grind (serving, arith)
 
 pub returns : goal.returns
-returns c = filled_done _ _ _ _ _ c.loop-p.invariant (omega arith) (omega arith)
+returns c = list_of_at _ _ 0 _ c.from_fn.ensures.items.long (λ i h. let k = c.from_fn.ensures.items.at i 0 h in search rules)

@@ -12,5 +12,5 @@ pub returns : goal.returns
 returns c =
     let a = c.args in
     c.kept_point.ensures
-    ∙ ap (λ (v : ℕ). kept_point a.n (heard_of a.own v a.b a.inbox.now a.k)) c.value-own_value.ensures
+    ∙ ap (λ (v : ℕ). kept_point a.n (heard_of a.own v a.b a.inbox.now a.k)) c.value.ensures
     ∙ kept_from_lem a.n a.own a.mine.now a.b a.inbox.now a.k c.if-b-k.false c.requires.1

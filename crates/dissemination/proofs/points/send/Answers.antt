@@ -1,5 +1,6 @@
 -- `points::send` meets its contract.
 use Rattle.std.proofs.Common.{sym, ap, ◌∙◌, Bool, List, ℕ, length}
+use Rattle.sizes.proofs.Refusals.{passed}
 use Rattle.messages.specs.Messages.{unless_refused}
 use Rattle.messages.proofs.Laws.{if_refused, if_done, accepted as messages_accepted}
 use Rattle.dissemination.specs.Dissemination.{points_to_all, round_refusal}
@@ -14,14 +15,16 @@ returns-then-not-speaks c =
       told.1 ∙ ap (λ (l : List ℕ). unless_refused (round_refusal a.n a.m 1 (length a.out.now)) l a.out.now) (points_none a.n a.m a.speaks a.bytes _ (c.if-not-speaks.true)),
     )
 
-pub returns-then-why-ne0 : goal.returns-then-why-ne0
-returns-then-why-ne0 c = (c.refusal-why.ensures, sym (if_refused _ _ _ (λ z. c.if-why-ne0.true (c.refusal-why.ensures ∙ z))))
+pub returns-in_err-refusal : goal.returns-in_err-refusal
+returns-in_err-refusal c =
+    let p = passed _ c.from_residual.result c.from_residual.ensures.1 c.in_err-refusal.ensures in
+    (p.0, sym (if_refused _ _ _ p.1))
 
 pub send_all-requires : goal.send_all-requires
-send_all-requires c = let h = messages_accepted _ _ _ _ (sym c.refusal-why.ensures ∙ c.if-why-ne0.false) in (h.0, sym h.1)
+send_all-requires c = let h = messages_accepted _ _ _ _ (sym c.in_ok-refusal.ensures) in (h.0, sym h.1)
 
 pub returns : goal.returns
 returns c =
     let a = c.args in
-    let e = sym c.refusal-why.ensures ∙ c.if-why-ne0.false in
+    let e = sym c.in_ok-refusal.ensures in
     (sym e, c.send_all.ensures ∙ ap (λ (s : Bool). points_to_all a.n a.m s a.bytes) (sym (c.if-not-speaks.false)) ∙ sym (if_done _ _ _ e))

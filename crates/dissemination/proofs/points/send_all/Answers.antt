@@ -3,12 +3,16 @@ use Rattle.std.proofs.Common.{refl, replicate, ◌∙◌, arith}
 use Rattle.lists.specs.Loops.{rowed_none, rowed_fits, rowed_more, rowed_room, rowed_done}
 use Rattle.field.specs.Field.{blank}
 use Rattle.sizes.proofs.Laws.{blocks_le, accepted, few_blocks, column_of_lem}
-use Rattle.codeword.specs.Words.{codewords_in, length_codewords}
+use Rattle.sizes.proofs.Refusals.{there}
+use Rattle.codeword.specs.Words.{codewords_accepted, codewords_in, length_written, across_accepted}
 use Rattle.dissemination.proofs.Laws.{across_row, points_are}
 use Rattle.dissemination.proofs.points.send_all.Goals as goal
 
 pub overflow_cast-b : goal.overflow_cast-b
 overflow_cast-b c = record { fits = omega (arith, c.blocks-b.ensures, blocks_le c.args.n c.args.m) }
+
+pub unwrap-requires : goal.unwrap-requires
+unwrap-requires c = there _ (c.codewords.ensures.0 ∙ codewords_accepted _ _ _ (replicate 1024 blank) c.requires.0 refl)
 
 pub loop-j-init : goal.loop-j-init
 loop-j-init c = rowed_none _ _ _ _ (rw c.blocks-b.ensures c.requires.1)
@@ -25,6 +29,14 @@ slice_bounds-write-count c = omega (arith, c.place-at.ensures, rowed_fits _ _ _ 
 pub slice_bounds-write-start : goal.slice_bounds-write-start
 slice_bounds-write-start c = omega (arith, c.place-at.ensures, rowed_fits _ _ _ _ _ _ c.loop-j.invariant (omega arith))
 
+pub unwrap-requires-in-loop-j : goal.unwrap-requires-in-loop-j
+unwrap-requires-in-loop-j c =
+    let long = length_written _ _ _ _ (replicate 1024 blank) _ c.requires.0 refl c.codewords.ensures.1 in
+    there _ (c.write.ensures.0
+    ∙ across_accepted _ _ _ _ _ (column_of_lem c.args.n c.args.m 1 _ c.requires.0 (omega arith) (omega arith))
+    (omega (arith, few_blocks c.args.n c.args.m 1 c.requires.0, c.blocks-b.ensures, long))
+    (rowed_room _ _ _ _ _ _ _ c.loop-j.invariant (omega arith) (omega (arith, c.place-at.ensures))))
+
 pub loop-j-preserved : goal.loop-j-preserved
 loop-j-preserved c =
     let few = few_blocks c.args.n c.args.m 1 c.requires.0 in
@@ -34,7 +46,7 @@ loop-j-preserved c =
     rowed_more _ _ _ _ _ _ _ _ i (omega arith) (omega (arith, at))
     (c.write.ensures.1
     ∙ across_row _ _ _ _ _ (column_of_lem c.args.n c.args.m 1 _ c.requires.0 (omega arith) (omega arith)) (rowed_room _ _ _ _ _ _ _ i (omega arith) (omega (arith, at)))
-    (rw (c.codewords.ensures.1, codewords_in c.args.n c.args.m 1 c.args.bytes (replicate 1024 blank) c.requires.0 refl, length_codewords c.args.n c.args.m c.args.bytes) (omega (arith, few, b))))
+    (omega (arith, few, b, length_written _ _ _ _ (replicate 1024 blank) _ c.requires.0 refl c.codewords.ensures.1)))
 
 pub shape_of-out : goal.shape_of-out
 shape_of-out c = c.loop-j.invariant.same

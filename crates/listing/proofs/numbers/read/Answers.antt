@@ -1,19 +1,20 @@
 -- `numbers::read` meets its contract.
-use Rattle.std.proofs.Common.{refl, ℕ, ap, add-one, arith, ◌∙◌, get_or}
-use Rattle.listing.specs.Number.{with_digit, read_to}
+use Rattle.std.proofs.Common.{refl, sym, ◌+◌, ◌-◌, length, ap, arith, ◌∙◌}
+use Rattle.listing.specs.Number.{read_to, number_in}
+use Rattle.listing.proofs.Digits.{read_more, none_stays}
 use Rattle.listing.proofs.numbers.read.Goals as goal
 
-pub loop-k-init : goal.loop-k-init
+pub loop-letter-init : goal.loop-letter-init
 unfolding read_to
-loop-k-init c = (omega arith, refl, refl, omega arith)
+loop-letter-init c = refl
 
-pub loop-k-preserved : goal.loop-k-preserved
-unfolding read_to
-loop-k-preserved c =
-    let a = c.args in
-    let inv = c.loop-k.invariant in
-    let k = c.loop-k.k in
-    (omega arith, inv.1, c.with_digit-v.ensures.0 ∙ ap (λ (v : ℕ). with_digit v (get_or a.text.now k 0)) inv.2 ∙ rw add-one refl, c.with_digit-v.ensures.1)
+pub returns-in_err-v : goal.returns-in_err-v
+returns-in_err-v c = let text = c.args.text.now in
+    let k = c.loop-letter.letter-index in
+    ap number_in c.from_residual.ensures ∙ sym (none_stays text (k + 1) (length text - (k + 1)) (length text) (omega arith) (read_more text k _ _ c.loop-letter.invariant c.in_err-v.ensures))
+
+pub loop-letter-preserved : goal.loop-letter-preserved
+loop-letter-preserved c = sym (read_more c.args.text.now c.loop-letter.letter-index _ _ c.loop-letter.invariant c.in_ok-v.ensures)
 
 pub returns : goal.returns
-returns c = let inv = c.loop-k.invariant in inv.2 ∙ ap (read_to c.args.text.now) (omega arith)
+returns c = c.loop-letter.invariant ∙ ap (read_to c.args.text.now) (omega arith)

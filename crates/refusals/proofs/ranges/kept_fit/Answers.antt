@@ -18,7 +18,4 @@ blank_fits b kept e =
     rw v (or_right (ltb k b) true tt)))
 
 pub returns-then-are_blank : goal.returns-then-are_blank
-returns-then-are_blank c = sym (blank_fits _ _ (sym c.are_blank.ensures ∙ c.if-are_blank.true))
-
-pub returns : goal.returns
-returns c = c.points_fit.ensures
+returns-then-are_blank c = c.if-are_blank.true ∙ sym (blank_fits _ _ (sym c.are_blank.ensures ∙ c.if-are_blank.true))

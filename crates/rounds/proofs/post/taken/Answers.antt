@@ -1,19 +1,11 @@
 -- `post::taken` meets its contract.
-use Rattle.std.proofs.Common.{refl, sym, arith, ◌∙◌}
-use Rattle.lists.specs.Loops.{filled_none, filled_more, filled_done}
-use Rattle.agreement.specs.Post.{taken_record}
+use Rattle.std.proofs.Common.{rules, refl, sym, ◌∙◌}
+use Rattle.lists.specs.Library.{list_of_at}
+use Rattle.agreement.specs.Post.{posted_by, posted_byte, taken_record}
 use Rattle.rounds.proofs.post.taken.Goals as goal
-
-pub returns-then-not-are_bytes : goal.returns-then-not-are_bytes
-unfolding taken_record
-returns-then-not-are_bytes c = rw (sym c.are_bytes.ensures ∙ c.if-not-are_bytes.true) refl
-
-pub loop-p-init : goal.loop-p-init
-loop-p-init c = filled_none _ _ _ (omega arith)
-
-pub loop-p-preserved : goal.loop-p-preserved
-loop-p-preserved c = filled_more _ _ _ _ _ _ c.loop-p.invariant (omega arith) c.byte_at.ensures
 
 pub returns : goal.returns
 unfolding taken_record
-returns c = filled_done _ _ _ _ _ c.loop-p.invariant (omega arith) (omega arith) ∙ rw (sym c.are_bytes.ensures ∙ c.if-not-are_bytes.false) refl
+returns c = let a = c.args in
+    list_of_at (posted_byte a.column.m (posted_by a.poster a.column a.inbox.now)) _ 0 _ c.from_fn.ensures.items.long (λ p h. let k = c.from_fn.ensures.items.at p 0 h in search rules)
+    ∙ rw (sym c.are_bytes.ensures ∙ c.if-not-are_bytes.false) refl

@@ -1,16 +1,10 @@
 -- `reading::words` meets its contract.
-use Rattle.std.proofs.Common.{arith}
-use Rattle.lists.specs.Loops.{filled_none, filled_more, filled_done}
+use Rattle.std.proofs.Common.{rules}
+use Rattle.lists.specs.Library.{list_of_made}
 use Rattle.messages.specs.Messages.{word}
 use Rattle.state_bytes.specs.Layout.{word_from}
 use Rattle.state_bytes.proofs.reading.words.Goals as goal
 
-pub loop-i-init : goal.loop-i-init
-loop-i-init c = filled_none _ _ _ (omega arith)
-
-pub loop-i-preserved : goal.loop-i-preserved
-unfolding word_from word
-loop-i-preserved c = filled_more _ _ _ _ _ _ c.loop-i.invariant (omega arith) c.word.ensures
-
 pub returns : goal.returns
-returns c = filled_done _ _ _ _ _ c.loop-i.invariant (omega arith) (omega arith)
+unfolding word_from word
+returns c = list_of_made _ _ _ _ 0 (λ i y q k. search rules) _ c.from_fn.ensures.items

@@ -1,28 +1,26 @@
 -- `rows::run` meets its contract.
 use Rattle.std.proofs.Common.{sym, ap, arith, ◌∙◌}
+use Rattle.sizes.proofs.Refusals.{passed}
 use Rattle.messages.proofs.Laws.{if_refused, if_done}
 use Rattle.wall_run.specs.Run.{outcomes}
-use Rattle.wall_bytes.specs.Calls.{row_bytes, wall_row}
-use Rattle.wall_bytes.specs.Laws.{entered_none, entered_same, entered_more, entered_done, wall_refusal, ran}
+use Rattle.wall_run.specs.Row.{refused_with}
+use Rattle.wall_bytes.specs.Calls.{row_bytes, wall_answer, wall_row}
+use Rattle.wall_bytes.specs.Laws.{entered_none, entered_same, entered_more, entered_done, ran}
 use Rattle.wall_bytes.proofs.rows.run.Goals as goal
 
-pub returns-then-o-ne0 : goal.returns-then-o-ne0
-unfolding wall_row
-returns-then-o-ne0 c =
+pub returns-in_err-all : goal.returns-in_err-all
+unfolding wall_answer wall_row
+returns-in_err-all c =
     let a = c.args in
-    let o = c.outcomes_of-o.ensures ∙ ap (outcomes a.protocol a.sheet.now) c.places.ensures in
-    let e = wall_refusal _ _ _ _ o in
-    (e, sym (if_refused _ _ _ (λ z. c.if-o-ne0.true (e ∙ z))))
+    let is = c.in_err-all.ensures ∙ ap (outcomes a.protocol a.sheet.now) c.places-n.ensures in
+    let p = passed _ c.from_residual.result c.from_residual.ensures.1 (refused_with _ _ _ _ is) in
+    (p.0, sym (if_refused _ _ _ p.1))
 
 pub loop-i-init : goal.loop-i-init
 loop-i-init c =
     let a = c.args in
-    let o = c.outcomes_of-o.ensures ∙ ap (outcomes a.protocol a.sheet.now) c.places.ensures in
-    let r = ran _ _ _ _ o c.if-o-ne0.false in
-    entered_none _ _ _ r.few r.size
-
-pub overflow_mul-at : goal.overflow_mul-at
-overflow_mul-at c = omega (arith, c.loop-i.invariant.few)
+    let r = ran _ _ a.row.now _ (c.in_ok-all.ensures ∙ ap (outcomes a.protocol a.sheet.now) c.places-n.ensures) in
+    entered_none _ _ _ (omega (arith, r.few, c.places-n.ensures)) (omega (arith, r.size, c.places-n.ensures))
 
 pub offset_bounds-all-i : goal.offset_bounds-all-i
 offset_bounds-all-i c = omega (arith, c.loop-i.invariant.few)
@@ -46,7 +44,7 @@ pub returns : goal.returns
 unfolding wall_row
 returns c =
     let a = c.args in
-    let o = c.outcomes_of-o.ensures ∙ ap (outcomes a.protocol a.sheet.now) c.places.ensures in
-    let z = c.if-o-ne0.false in
-    let e = sym (wall_refusal _ _ _ _ o) ∙ z in
-    (sym e, entered_done _ _ _ _ _ c.loop-i.invariant (omega arith) ∙ ap row_bytes (ran _ _ _ _ o z).holds ∙ sym (if_done _ _ _ e))
+    let n = c.places-n.ensures in
+    let r = ran _ _ a.row.now _ (c.in_ok-all.ensures ∙ ap (outcomes a.protocol a.sheet.now) n) in
+    let written = rw n at (entered_done _ _ _ _ _ c.loop-i.invariant (omega arith)) in
+    (sym r.done, written ∙ ap row_bytes r.holds ∙ sym (if_done _ _ _ r.done))

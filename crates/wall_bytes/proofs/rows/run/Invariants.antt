@@ -3,4 +3,4 @@ use Rattle.wall_bytes.specs.Laws.{Entered}
 use Rattle.wall_bytes.proofs.rows.run.Given as goal
 
 abbrev pub invariant-loop-i : goal.invariant-loop-i
-invariant-loop-i l = Entered l.all l.i-end l.initial.row l.row l.i
+invariant-loop-i l = Entered l.all l.n l.initial.row l.row l.i

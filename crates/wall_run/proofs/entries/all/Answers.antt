@@ -10,22 +10,7 @@ use Rattle.agreement.specs.declared.Entry.{Entry}
 use Rattle.wall_run.proofs.entries.all.Goals as goal
 
 pub loop-i-init : goal.loop-i-init
-loop-i-init c = filled_none _ _ _ (omega (arith, length-replicate 31 c.mark_only-none.result, c.columns-n.ensures, c.requires))
-
-pub offset_bounds-wall-at : goal.offset_bounds-wall-at
-offset_bounds-wall-at c = omega (arith, c.columns-n.ensures, c.requires)
-
-pub bounds-wall-at : goal.bounds-wall-at
-bounds-wall-at c = omega (arith, c.columns-n.ensures, c.requires)
-
-pub entry-requires : goal.entry-requires
-entry-requires c = omega (arith, c.columns-n.ensures, c.requires)
-
-pub offset_bounds-entries-at : goal.offset_bounds-entries-at
-offset_bounds-entries-at c = omega (arith, c.columns-n.ensures, c.requires)
-
-pub bounds-entries-at : goal.bounds-entries-at
-bounds-entries-at c = omega (arith, c.columns-n.ensures, c.requires)
+loop-i-init c = filled_none _ _ _ (omega (arith, length-replicate 31 c.mark_only-entries.result, c.columns-n.ensures, c.requires))
 
 pub loop-i-preserved : goal.loop-i-preserved
 unfolding entry_in
@@ -38,4 +23,4 @@ pub returns : goal.returns
 unfolding in_places
 returns c =
     let a = c.args in
-    filled_part _ _ _ _ _ c.loop-i.invariant (omega arith) ∙ ap₂ {C = List Entry} (λ n none. list_of (entry_in a.sheet.now a.wall) n ++ drop n (replicate 31 none)) c.columns-n.ensures c.mark_only-none.ensures
+    filled_part _ _ _ _ _ c.loop-i.invariant (omega arith) ∙ ap₂ {C = List Entry} (λ n none. list_of (entry_in a.sheet.now a.wall) n ++ drop n (replicate 31 none)) c.columns-n.ensures c.mark_only-entries.ensures

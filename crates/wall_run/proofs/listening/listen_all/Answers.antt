@@ -1,5 +1,5 @@
 -- `listening::listen_all` meets its contract.
-use Rattle.std.proofs.Common.{sym, ap, arith, length-take-le, ◌∙◌, ℕ, ◌+◌, ◌<◌}
+use Rattle.std.proofs.Common.{ap, arith, ◌∙◌, ℕ, ◌+◌, ◌<◌}
 use Rattle.std.proofs.lemmas.List.{length-replicate}
 use Rattle.std.proofs.Math.Seq.{length_front}
 use Rattle.lists.specs.Entries.{get_d_within}
@@ -11,29 +11,6 @@ use Rattle.wall_run.proofs.listening.listen_all.Goals as goal
 
 pub loop-i-init : goal.loop-i-init
 loop-i-init c = (filled_none _ _ _ (omega (arith, c.requires.0.columns_high, c.well_formed.1.1.1.0.1.0.1)), length-replicate {A = ℕ} 992 65535)
-
-pub offset_bounds-wall-at : goal.offset_bounds-wall-at
-offset_bounds-wall-at c = omega (arith, c.columns-n.ensures, c.requires.0.columns_high)
-
-pub bounds-wall-at : goal.bounds-wall-at
-bounds-wall-at c = omega (arith, c.columns-n.ensures, c.requires.0.columns_high)
-
-pub slice_bounds-inbox-end : goal.slice_bounds-inbox-end
-slice_bounds-inbox-end c = omega (arith, c.of_one-len.ensures, c.requires.1)
-
-pub slice_bounds-hear-end : goal.slice_bounds-hear-end
-slice_bounds-hear-end c = sym (length-take-le _ _ (omega (arith, c.of_one-len.ensures, c.requires.1, c.loop-i.invariant.1)))
-
-pub hear-requires : goal.hear-requires
-hear-requires c =
-    let pre = c.requires in
-    (record { range = pre.0; number_low = omega arith; number_high = omega (arith, c.columns-n.ensures) }, length-take-le _ _ (omega (arith, c.of_one-len.ensures, c.requires.1, c.loop-i.invariant.1)) ∙ c.of_one-len.ensures)
-
-pub offset_bounds-wall-at-in-loop-i : goal.offset_bounds-wall-at-in-loop-i
-offset_bounds-wall-at-in-loop-i c = omega (arith, c.columns-n.ensures, c.requires.0.columns_high)
-
-pub bounds-wall-at-in-loop-i : goal.bounds-wall-at-in-loop-i
-bounds-wall-at-in-loop-i c = omega (arith, c.columns-n.ensures, c.requires.0.columns_high)
 
 pub loop-i-preserved : goal.loop-i-preserved
 unfolding turned

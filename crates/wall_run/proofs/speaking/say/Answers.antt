@@ -1,6 +1,6 @@
 -- `speaking::say` meets its contract.
-use Rattle.std.proofs.Common.{refl, List, ℕ, take, sym, ap, arith, length-take-le, ◌∙◌}
-use Rattle.agreement.specs.declared.Answered.{Answered}
+use Rattle.std.proofs.Common.{refl, List, ℕ, take, sym, ap, ◌∙◌}
+use Rattle.wall_run.specs.Answered.{left}
 use Rattle.agreement.specs.Calls.{speak}
 use Rattle.sheet.specs.Sheet.{columns}
 use Rattle.wall_run.specs.Run.{spoken, words}
@@ -13,12 +13,6 @@ returns-then-not-sound c =
     let not_sound = sym c.sound.ensures ∙ c.if-not-sound.true in
     (rw not_sound refl, rw not_sound (sym (not_said _ _ _ c.requires.2)))
 
-pub slice_bounds-speak-end : goal.slice_bounds-speak-end
-slice_bounds-speak-end c = omega (arith, c.of_one-len.ensures, c.requires.1)
-
-pub slice_bounds-speak-end-2 : goal.slice_bounds-speak-end-2
-slice_bounds-speak-end-2 c = sym (length-take-le _ _ (omega (arith, c.of_one-len.ensures, c.requires.1)))
-
 pub returns : goal.returns
 unfolding spoken words
 returns c =
@@ -26,4 +20,4 @@ returns c =
     let len = c.of_one-len.ensures in
     let blank = c.requires.2 in
     let is_sound = sym c.sound.ensures ∙ c.if-not-sound.false in
-    (rw is_sound (ap (λ (r : Answered). r.column) c.speak-answered.ensures.0 ∙ ap (λ (l : List ℕ). (speak a.column l).column) (ap (λ (k : ℕ). take k a.part.now) len ∙ blank)), rw is_sound (all_said a.column (columns a.sheet.now) a.width c.of_one-len.result a.part.now c.speak-answered.new.out len blank c.speak-answered.ensures.1))
+    (rw is_sound (c.unwrap_or.ensures ∙ left _ _ _ c.speak.ensures.0 ∙ ap (λ (l : List ℕ). (speak a.column l).column) (ap (λ (k : ℕ). take k a.part.now) len ∙ blank)), rw is_sound (all_said a.column (columns a.sheet.now) a.width c.of_one-len.result a.part.now c.speak.new.out len blank c.speak.ensures.1))

@@ -6,7 +6,7 @@ use Rattle.messages.specs.Messages.{said}
 use Rattle.agreement.specs.declared.Column.{Column}
 use Rattle.field.specs.Field.{blank}
 use Rattle.lists.specs.Entries.{get_d_within}
-use Rattle.lists.specs.Loops.{filled_none, filled_more, filled_read, filled_part, rowed_none, rowed_fits, rowed_more, rowed_room, rowed_done}
+use Rattle.lists.specs.Loops.{filled_none, filled_more, filled_read, filled_part, rowed_none, rowed_more, rowed_room, rowed_done}
 use Rattle.agreement.specs.Calls.{no_column}
 use Rattle.sheet.specs.Sheet.{columns}
 use Rattle.wall_run.specs.Run.{column_at, turned, each, spoken, words, words_of, mail}
@@ -18,36 +18,12 @@ loop-j-init c =
     let s = c.requires in
     (filled_none _ _ _ (omega (arith, s.few, c.well_formed.1.1.0.1.0.1)), rowed_none _ _ _ _ (sym (ap length s.blank_all ∙ length-replicate _ blank)))
 
-pub offset_bounds-wall-i : goal.offset_bounds-wall-i
-offset_bounds-wall-i c = omega (arith, c.columns-n.ensures, c.requires.few)
-
-pub bounds-wall-i : goal.bounds-wall-i
-bounds-wall-i c = omega (arith, c.columns-n.ensures, c.requires.few)
-
-pub of_many-at-requires : goal.of_many-at-requires
-of_many-at-requires c = (c.requires.few, c.requires.narrow)
-
-pub offset_bounds-mail-at : goal.offset_bounds-mail-at
-offset_bounds-mail-at c = omega (arith, c.of_many-at.ensures, rowed_fits _ _ _ _ _ _ c.loop-j.invariant.1 (omega (arith, c.columns-n.ensures)), c.well_formed)
-
-pub slice_bounds-say-count : goal.slice_bounds-say-count
-slice_bounds-say-count c = omega (arith, c.of_many-at.ensures, rowed_fits _ _ _ _ _ _ c.loop-j.invariant.1 (omega (arith, c.columns-n.ensures)))
-
-pub slice_bounds-say-start : goal.slice_bounds-say-start
-slice_bounds-say-start c = omega (arith, c.of_many-at.ensures, rowed_fits _ _ _ _ _ _ c.loop-j.invariant.1 (omega (arith, c.columns-n.ensures)))
-
 pub say-requires : goal.say-requires
 say-requires c =
     let s = c.requires in
     let inside : c.loop-j.j < columns c.args.sheet.now = omega (arith, c.columns-n.ensures) in
     let at = c.of_many-at.ensures in
     (omega (arith, s.few), rowed_room _ _ _ _ _ _ _ c.loop-j.invariant.1 inside at, blank_part _ _ _ _ _ _ _ s.blank_all c.loop-j.invariant.1 inside at)
-
-pub offset_bounds-wall-i-in-loop-j : goal.offset_bounds-wall-i-in-loop-j
-offset_bounds-wall-i-in-loop-j c = omega (arith, c.columns-n.ensures, c.requires.few)
-
-pub bounds-wall-i-in-loop-j : goal.bounds-wall-i-in-loop-j
-bounds-wall-i-in-loop-j c = omega (arith, c.columns-n.ensures, c.requires.few)
 
 pub loop-j-preserved : goal.loop-j-preserved
 unfolding turned words_of column_at
@@ -60,9 +36,6 @@ loop-j-preserved c =
     let w = columns a.sheet.now * a.width in
     let part = take (length c.loop-j.mail - c.of_many-at.result) (drop c.of_many-at.result c.loop-j.mail) in
     (filled_more _ _ _ _ _ _ so_far inside (c.say.ensures.0 ∙ ap (spoken a.sheet.now a.width (j + 1)) read), rowed_more _ _ _ _ _ _ _ _ c.loop-j.invariant.1 inside c.of_many-at.ensures (c.say.ensures.1 ∙ ap (λ (x : Column). list_of (said (words a.sheet.now a.width (j + 1) x)) w ++ drop w part) (read ∙ ap (λ (k : ℕ). get_or a.wall k no_column) {x = j} {y = j + 1 - 1} (omega arith))))
-
-pub shape_of-mail : goal.shape_of-mail
-shape_of-mail c = c.loop-j.invariant.1.same
 
 pub returns : goal.returns
 unfolding each mail

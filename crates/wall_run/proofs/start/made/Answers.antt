@@ -1,5 +1,7 @@
 -- `start::made` meets its contract.
-use Rattle.std.proofs.Common.{arith, mul-le-mul, ap, ℕ, ◌+◌, ◌*◌, ◌≤◌, ◌-◌, length, take, drop}
+use Rattle.std.specs.Result.{result_unwrap_or}
+use Rattle.wall_run.specs.Answered.{left}
+use Rattle.std.proofs.Common.{◌∙◌, arith, mul-le-mul, ap, ℕ, ◌+◌, ◌*◌, ◌≤◌, ◌-◌, length, take, drop}
 use Rattle.sheet.specs.Sheet.{record_of, columns, bytes, record_place}
 use Rattle.sheet.specs.Laws.{record_place_lem, record_fits}
 use Rattle.wall_run.specs.Run.{made}
@@ -22,4 +24,5 @@ returns c =
     let n = columns a.sheet.now in
     let m = bytes a.sheet.now in
     let at = record_place n m (a.i + 1) in
-    rw (c.fresh-answered.ensures, c.record_place-at.ensures, c.bytes-m.ensures, c.columns-n.ensures) (ap (λ (k : ℕ). (fresh a.protocol n m (a.i + 1) (take k (drop at a.sheet.now))).column) {x = at + m - at} {y = m} (omega arith))
+    c.unwrap_or.ensures ∙ ap (result_unwrap_or c.fresh.result) c.no_column.ensures ∙ left _ _ _ c.fresh.ensures
+    ∙ rw (c.record_place-at.ensures, c.bytes-m.ensures, c.columns-n.ensures) (ap (λ (k : ℕ). (fresh a.protocol n m (a.i + 1) (take k (drop at a.sheet.now))).column) {x = at + m - at} {y = m} (omega arith))

@@ -1,5 +1,0 @@
--- `columns::posting_fresh` meets its contract.
-use Rattle.column_bytes.proofs.columns.posting_fresh.Goals as goal
-
-pub returns : goal.returns
-returns c = rw (← c.narrow.ensures, ← c.narrow-2.ensures, ← c.narrow-3.ensures, ← c.narrow-4.ensures) c.fresh.ensures

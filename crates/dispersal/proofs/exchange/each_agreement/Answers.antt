@@ -1,0 +1,11 @@
+-- `exchange::each_agreement` meets its contract.
+use Rattle.std.proofs.Common.{rules, false, arith}
+use Rattle.std.proofs.iter.Serving.{serving}
+use Rattle.lists.specs.Library.{list_of_at}
+use Rattle.dispersal.proofs.exchange.each_agreement.Goals as goal
+
+pub from_fn-requires : goal.from_fn-requires
+from_fn-requires c = grind (serving, arith)
+
+pub returns : goal.returns
+returns c = list_of_at _ _ false _ c.from_fn.ensures.items.long (λ i h. let k = c.from_fn.ensures.items.at i false h in search rules)

@@ -1,7 +1,0 @@
--- `lines::put_columns` meets its contract.
-use Rattle.listing.specs.Writing.{Joins}
-use Rattle.listing.specs.Listing.{line_at}
-use Rattle.listing.proofs.lines.put_columns.Given as goal
-
-abbrev pub invariant-loop-i : goal.invariant-loop-i
-invariant-loop-i l = Joins (line_at l.m l.o) l.n l.initial.out l.at l.out l.next l.i

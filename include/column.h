@@ -22,7 +22,7 @@
  * Stack. The most that a call takes, in bytes, on x86-64; measured, not proved (bench/run stack), and ./check measures again:
  *
  *     column_fresh   1024    posting_fresh  1024
- *     column_speak   3840    column_listen  7424    column_outcome  1024
+ *     column_speak   3840    column_listen  7168    column_outcome  1024
  *
  * What the board sees to. All columns are made with the same n and m, and for the same protocol: in a posting with the same poster. The message
  * to, or from, column j starts at place (j - 1) times the values of the round. A message that did not come, or came late, is COLUMN_BLANK in every

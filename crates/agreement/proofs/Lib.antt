@@ -9,6 +9,7 @@
 --   Agreeing, Decision                               the sound columns of an agreement end on one outcome
 --   Taken, Binding                                   what the sound columns of a posting output meets Definition 3.10
 --   Endings, Turns, Shapes, Walk, Runs               lists of calls, refused ones among them, come to these courses
+--   Told          what a call for the entry of a column comes to
 pub mod Agreeing
 pub mod Binding
 pub mod Course
@@ -29,5 +30,6 @@ pub mod Settling
 pub mod Shapes
 pub mod Taken
 pub mod Theorem
+pub mod Told
 pub mod Turns
 pub mod Walk

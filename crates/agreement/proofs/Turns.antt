@@ -56,6 +56,11 @@ module _ (c : Column) where
   extra_keeps p (Listens inbox) h = refused_state (Listens inbox) (λ e. T_not (eqb (refusal_at c (Listens inbox)) 0) h (eq→eqb (refusal_at c (Listens inbox)) 0 e))
   extra_keeps p Asks h = refl
 
+-- what a refused call would have done plays no part
+pub refused_alike : (why : ℕ) (done other before : Column) → (why ≡ 0 → ⊥) → answered why done before ≡ answered why other before
+unfolding answered
+refused_alike why done other before h = rw (ne_eqb why 0 h) refl
+
 -- what stands beside a refused call to make a column: every later call refuses it with 11
 pub no_column_lem : (call : Call) → refusal_at no_column call ≡ 11
 unfolding refusal_at speak listen outcome answered refusal_of answer_of refusal_in reply_of speak_refusal listen_refusal outcome_refusal in_round in_state refusal no_column fresh_column fits numbers_fit names_fit refusal_of_sizes outside

@@ -1,7 +1,9 @@
 -- The definitions of an entry. Document 01, "A whole wall": "An entry holds the mark, dispersal grade, last vote, whether the column ended on a
 -- record, and 32 record bytes, zeros past m or without a record; an unsound column's entry is its mark and zeros."
-use Rattle.std.specs.Prelude.{Bool, true, false, cond, List, ℕ, eqb, take, replicate}
+use Rattle.std.specs.Prelude.{Bool, true, false, cond, List, ℕ, eqb, take, replicate, Result, Ok, Err}
 use Rattle.std.proofs.Math.Option.{Option, none, some}
+use Rattle.sizes.specs.declared.numbers.Refusal.{Refusal}
+use Rattle.sizes.specs.Refusals.{number}
 use Rattle.agreement.specs.declared.Outcome.TheVariants.{Nothing, Record}
 use Rattle.agreement.specs.Replies.{Reply}
 use Rattle.agreement.specs.Replies.{Ended, Refused}
@@ -29,6 +31,11 @@ sound_entry c = entry_asked (outcome c)
 -- of a column that may have come to no outcome: the refusal of a call for it, and the entry, a mark and zeros where it is refused
 unfoldable pub told : Column → Told
 told c = record { refusal = outcome_refusal c; entry = cond (eqb (outcome_refusal c) 0) (sound_entry c) (mark_only 0) }
+
+-- a call for the entry returns it, or why it is refused
+abbrev pub told_in : Result Entry Refusal → Told
+told_in (Ok entry) = record { refusal = 0; entry = entry }
+told_in (Err why) = record { refusal = number why; entry = mark_only 0 }
 
 -- "Outcomes are the same when all are none, or all are records with equal m bytes": none, or the record's m bytes
 unfoldable pub ended_on : ℕ → Entry → Option (List ℕ)

@@ -34,3 +34,7 @@ abbrev pub bytes_in : Result (Option (List ℕ)) Refusal → List ℕ
 bytes_in (Ok None) = replicate 32 0
 bytes_in (Ok (Some bytes)) = bytes
 bytes_in (Err why) = replicate 32 0
+
+-- a column that is asked gives the grade beside it; the state is the one that was handed in
+abbrev pub replied_in : Result (Option (List ℕ)) Refusal → ℕ → Column → Replied
+replied_in asked grade c = record { reply = reply_in asked; grade = grade; bytes = bytes_in asked; column = c }

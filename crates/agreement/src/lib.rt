@@ -1,4 +1,4 @@
-// A column of a wall: the types of its state and of what its calls answer. What the calls do, in every protocol, is defined in specs/, and the
+// A column of a wall: the types of its state and of an entry. What the calls do, in every protocol, is defined in specs/, and the
 // third demand and Definition 3.10 are proved of the definitions there. The calls themselves stand above, in crates of their own; there is no
 // code here.
 #![tactic(auto)]

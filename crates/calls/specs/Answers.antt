@@ -23,7 +23,7 @@ use Rattle.agreement.specs.declared.Stage.TheVariants.{Speak, Listen, Ended}
 use Rattle.agreement.specs.declared.Column.{Column}
 use Rattle.agreement.specs.Answers.{answered_in}
 use Rattle.agreement.specs.Replies as R
-use Rattle.agreement.specs.Replies.{reply_in, bytes_in}
+use Rattle.agreement.specs.Replies.{reply_in, bytes_in, replied_in}
 use Rattle.agreement.specs.Column.{stage_fits, names_fit, numbers_fit, fits}
 use Rattle.agreement.specs.Parts.{with_stage}
 use Rattle.agreement.specs.Rounds.{outgoing, listens}
@@ -69,7 +69,7 @@ module _ (c : Column) where
   told_number r t = sym (number_of_reply r) ∙ ap refusal_in t.0 ∙ refusal_of_reply
 
   pub told_entry : (r : Result (Option (List ℕ)) Refusal) → Asked r
-      → entry_asked (record { reply = reply_in r; grade = grade_shown c.protocol c.grade (reply_in r); bytes = bytes_in r; column = c }) ≡ sound_entry c
+      → entry_asked (replied_in r (grade_shown c.protocol c.grade (reply_in r)) c) ≡ sound_entry c
   unfolding outcome sound_entry
   told_entry r t = rw (t.0, t.1) refl
 

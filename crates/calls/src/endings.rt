@@ -2,7 +2,7 @@
 ghost use Rattle.std.specs.Prelude.{◌≡◌, Ok};
 ghost use Rattle.agreement.specs.Replies as R;
 ghost use Rattle.agreement.specs.Replies.{reply_in, bytes_in};
-ghost use Rattle.agreement.specs.Calls.{ending as ending_of, shown as shown_of, grade_shown};
+ghost use Rattle.agreement.specs.Calls.{ending as ending_of, shown as shown_of, grade_shown, outcome as outcome_of};
 
 use agreement::{Column, Outcome, Stage};
 use sizes::numbers::Refusal;
@@ -16,6 +16,14 @@ pub(super) fn record(column: Column) -> Option<[u8; 32]>
         Stage::Ended(Outcome::Record) => Some(column.bytes),
         _ => None,
     }
+}
+
+// The same of a column that may not have ended: refused with 11, then with 9.
+pub(super) fn asked(column: Column) -> Result<Option<[u8; 32]>, Refusal>
+    ensures { (reply_in result ≡ (outcome_of column).reply) × (bytes_in result ≡ (outcome_of column).bytes) }
+{
+    refusals::to_ask(column)?;
+    Ok(record(column))
 }
 
 // The grade that goes with what a column answered: the dispersal grade, or in a posting that of the outcome. There a dispersal grade 2 stays 2,

@@ -10,9 +10,9 @@ mod start;
 ghost use Rattle.std.specs.Prelude.{◌≡◌};
 ghost use Rattle.sizes.specs.Refusals.{Gives};
 ghost use Rattle.agreement.specs.Answers.{answered_in};
-ghost use Rattle.agreement.specs.Replies.{reply_in, bytes_in};
+ghost use Rattle.agreement.specs.Replies.{replied_in};
 ghost use Rattle.agreement.specs.Calls.{no_column, fresh as fresh_of, speak as speak_of, written, listen as listen_of, outcome_refusal, outcome as outcome_of};
-ghost use Rattle.agreement.specs.Entries.{mark_only, sound_entry};
+ghost use Rattle.agreement.specs.Entries.{mark_only, sound_entry, told, told_in};
 
 pub use agreement::{Column, Entry, Outcome, Stage};
 pub use protocols::Protocol;
@@ -63,19 +63,29 @@ pub fn listen(column: Column, inbox: &[u16]) -> Result<Column, Refusal>
     rounds::hear(kind, next, column, inbox)
 }
 
-// The record that the column ended on, with zeros past m, or none. Refused with 11, then with 9 before the end.
-pub fn outcome(column: Column) -> Result<Option<[u8; 32]>, Refusal>
-    ensures { (reply_in result ≡ (outcome_of column).reply) × (bytes_in result ≡ (outcome_of column).bytes) }
-{
-    refusals::to_ask(column)?;
-    Ok(endings::record(column))
+// What a column answers that is asked for its outcome: the record that it ended on, with zeros past m, or none, or the refusal; and, refused or not, the
+// grade that goes with it.
+#[derive(Clone, Copy)]
+pub struct Output {
+    pub record: Result<Option<[u8; 32]>, Refusal>,
+    pub grade: u8,
 }
 
-// The grade that goes with the outcome, refused or not: in an agreement the one with which the column left dispersal, in a posting the outcome's.
+// What the column ended on, with the grade: in an agreement the one with which it left dispersal, in a posting the outcome's. Refused with 11, then with 9
+// before the end.
+pub fn outcome(column: Column) -> Output
+    ensures { replied_in result.record result.grade column ≡ outcome_of column }
+{
+    let record = endings::asked(column);
+    let grade = endings::grade_shown(column, record);
+    Output { record, grade }
+}
+
+// The grade alone.
 pub fn grade(column: Column) -> u8
     ensures { result ≡ (outcome_of column).grade }
 {
-    endings::grade_shown(column, outcome(column))
+    outcome(column).grade
 }
 
 // The entry of an unsound column: its mark and zeros.
@@ -96,13 +106,14 @@ pub fn mark_only(mark: u8) -> Entry
 pub fn sound_entry(column: Column) -> Entry
     ensures { result ≡ sound_entry column }
 {
-    entries::sound_entry(column, outcome(column))
+    entries::sound_entry(column, endings::asked(column))
 }
 
 // The entry of a column that may have come to none. Refused as a call for the outcome is: with 11, then with 9 before the end.
 pub fn tell(column: Column) -> Result<Entry, Refusal>
-    ensures { Gives result (outcome_refusal column) (sound_entry column) }
+    ensures given { Gives result (outcome_refusal column) (sound_entry column) }
+    ensures whole { told_in result ≡ told column }
 {
-    let record = outcome(column)?;
+    let record = endings::asked(column)?;
     Ok(entries::sound_entry(column, Ok(record)))
 }

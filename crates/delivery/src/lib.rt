@@ -136,8 +136,7 @@ fn refusal(sheet: &[u8], round: Round, own: u8, len: usize) -> Result<(), Refusa
 {
     let n = sheet::columns(sheet);
     let m = sheet::bytes(sheet);
-    sizes::refusal(n, m, own)?;
-    messages::refusal(n, round.width, len)
+    sizes::refusal(n, m, own).and(messages::refusal(n, round.width, len))
 }
 
 // What column `own` gets in the round, one message from each column. Refused with 1, 2 for the sizes of the sheet, with 3 for a receiver that is

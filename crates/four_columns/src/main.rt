@@ -88,7 +88,7 @@ fn write_outcome(rt: &impl Print, asked: Result<Option<[u8; 32]>, Refusal>) -> i
 // One line: what the column answers for its outcome.
 fn write_line(rt: &impl Print, column: Column) -> io::Result<()> {
     print!(rt; "{} grade {} bit {}", column.own, column.grade, column.vote)?;
-    write_outcome(rt, calls::outcome(column))
+    write_outcome(rt, calls::outcome(column).record)
 }
 
 // A run with the records of columns 3 and 4; columns 1 and 2 hold 41. It has rounds 1 to 11.

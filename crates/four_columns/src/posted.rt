@@ -14,8 +14,9 @@ fn word(round: u8) -> u16 {
 
 // One line: what the column answers for its outcome, and with which grade.
 fn write_line(rt: &impl Print, column: Column) -> io::Result<()> {
-    print!(rt; "2 posted grade {}", calls::grade(column))?;
-    write_outcome(rt, calls::outcome(column))
+    let asked = calls::outcome(column);
+    print!(rt; "2 posted grade {}", asked.grade)?;
+    write_outcome(rt, asked.record)
 }
 
 // All rounds, 1 to 6.

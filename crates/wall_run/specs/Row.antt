@@ -1,5 +1,5 @@
 -- The entries of a run on their way to the lent row.
-use Rattle.std.specs.Prelude.{Ok, ◌≡◌, refl, Bool, true, false, List, [], ℕ, eqb, length, get_or, drop, replicate}
+use Rattle.std.specs.Prelude.{Ok, ◌≡◌, refl, Bool, true, false, List, [], ℕ, ◌≤◌, eqb, length, get_or, drop, replicate}
 use Rattle.std.proofs.Math.Path.{sym}
 use Rattle.std.proofs.Common.{subst, ap, ap₂, ◌∙◌, eq-eqb, ne_eqb, eqb-true}
 use native.Mathlib.Omega.{arith}
@@ -54,6 +54,13 @@ module _ (p : Protocol) (sheet : List ℕ) (rows : ℕ) where
   pub outcomes_refusal : (outcomes p sheet rows).refusal ≡ refusal p sheet rows
   unfolding settled refused
   outcomes_refusal = by_refusal (λ o. o.refusal ≡ refusal p sheet rows) (λ e. sym e) (λ h. refl)
+
+  -- a run has no more entries than the row has places, and no more than 31
+  pub outcomes_fit : ((outcomes p sheet rows).count ≤ rows) × ((outcomes p sheet rows).count ≤ 31)
+  unfolding settled refused
+  outcomes_fit =
+      by_refusal (λ o. (o.count ≤ rows) × (o.count ≤ 31))
+      (λ e. let a = (accepted_run p sheet rows e).0 in (omega (arith, a.rows_are), a.arrays_there.range.columns_high)) (λ h. (omega arith, omega arith))
 
   -- read off what was returned: a refusal has the number,
   pub refused_with : (why : ℕ) → refused why ≡ outcomes p sheet rows → why ≡ refusal p sheet rows

@@ -1,8 +1,7 @@
 -- `grade` meets its contract.
-use Rattle.std.proofs.Common.{ap, ◌∙◌}
-use Rattle.agreement.specs.Calls.{grade_shown, outcome}
+use Rattle.std.proofs.Common.{ap}
+use Rattle.agreement.specs.Replies.{Replied}
 use Rattle.calls.proofs.grade.Goals as goal
 
 pub returns : goal.returns
-unfolding outcome
-returns c = let a = c.args in c.grade_shown.ensures ∙ ap (grade_shown a.column.protocol a.column.grade) c.outcome.ensures.0
+returns c = ap (λ (r : Replied). r.grade) c.outcome.ensures

@@ -8,7 +8,7 @@ use Rattle.codeword.proofs.value.Goals as goal
 
 pub returns : goal.returns
 unfolding value_in
-returns c = simp (le-ltb c.args.k c.args.b c.if-k-b.false)
+returns c = simp (le-ltb c.args.k c.args.b (omega (arith, c.if-k-b.false)))
 
 pub overflow_mul-k : goal.overflow_mul-k
 overflow_mul-k c = record { fits = omega (arith, mul-le-mul {n₁ = c.args.k} {m₁ = c.args.size} {n₂ = 31} {m₂ = 4} (omega arith) (omega arith)) }
@@ -23,4 +23,4 @@ returns-then-k-b c =
     ap (λ (v : Field). v.0) c.sized_value.ensures
     ∙ ap (λ (cs : List ℕ). value_of (part cs 0 a.size) a.x) c.coefficients-c.ensures
     ∙ ap (λ (cs : List ℕ). value_of cs a.x) (part_front a.bytes.now _ 4 a.size c.requires.1)
-    ∙ simp (lt-ltb a.k a.b c.if-k-b.true)
+    ∙ simp (lt-ltb a.k a.b (omega (arith, c.if-k-b.true)))

@@ -1,16 +1,22 @@
 -- `refusal` meets its contract.
-use Rattle.std.proofs.Common.{◌∙◌, sym, refl}
-use Rattle.sizes.proofs.Refusals.{passed}
-use Rattle.messages.proofs.Laws.{refused_before, refused_behind}
+use Rattle.std.specs.Prelude.{◌≡◌, ℕ, Result, Ok, Err}
+use Rattle.std.specs.Result.{result_and}
+use Rattle.std.proofs.Common.{ap, sym, ◌∙◌, refl}
+use Rattle.sizes.specs.declared.numbers.Refusal.{Refusal}
+use Rattle.sizes.specs.Refusals.{number, number_in}
+use Rattle.sizes.proofs.Refusals.{some}
+use Rattle.messages.specs.Messages.{refusal as refusal_of}
+use Rattle.messages.proofs.Laws.{refused_before}
 use Rattle.delivery.specs.Delivery.{refusal}
 use Rattle.delivery.proofs.refusal.Goals as goal
 
-pub returns-in_err-refusal : goal.returns-in_err-refusal
-unfolding refusal
-returns-in_err-refusal c =
-    let p = passed _ c.from_residual.result c.from_residual.ensures.1 c.in_err-refusal.ensures in
-    rw (p.0 ∙ sym (refused_before _ c.columns-n.result c.args.round.width c.args.len p.1), c.bytes-m.ensures, c.columns-n.ensures) refl
+-- of two refusals the first is told
+first : {A : Type 0} (n w len : ℕ) (r s : Result A Refusal) → number_in s ≡ refusal_of 0 n w len → number_in (result_and r s) ≡ refusal_of (number_in r) n w len
+first n w len (Ok x) s e = e
+first n w len (Err why) s e = sym (refused_before (number why) n w len (some why))
 
 pub returns : goal.returns
 unfolding refusal
-returns c = rw (c.refusal-2.ensures ∙ sym (refused_behind _ _ _ _ c.in_ok-refusal.ensures), c.bytes-m.ensures, c.columns-n.ensures) refl
+returns c =
+    ap number_in c.and.ensures ∙ first _ _ _ _ _ c.refusal-2.ensures
+    ∙ ap (λ (why : ℕ). refusal_of why c.columns-n.result c.args.round.width c.args.len) c.refusal.ensures ∙ rw (c.bytes-m.ensures, c.columns-n.ensures) refl

@@ -17,7 +17,11 @@ pub loop-j-preserved : goal.loop-j-preserved
 loop-j-preserved c = running_more _ _ _ _ _ c.loop-j.invariant _ _ _ (omega arith) c.value.ensures c.turn.ensures
 
 pub returns-then-first-second : goal.returns-then-first-second
-returns-then-first-second c = sym (running_done _ _ _ _ _ c.loop-j.invariant (omega arith) ∙ simp (le-leb _ _ c.if-first-second.true))
+returns-then-first-second c =
+    let l = c.loop-j in
+    sym (running_done _ _ _ _ _ l.invariant (omega arith) ∙ simp (le-leb l.first.weight l.second.weight (omega (arith, c.if-first-second.true))))
 
 pub returns : goal.returns
-returns c = sym (running_done _ _ _ _ _ c.loop-j.invariant (omega arith) ∙ simp (lt-leb _ _ c.if-first-second.false))
+returns c =
+    let l = c.loop-j in
+    sym (running_done _ _ _ _ _ l.invariant (omega arith) ∙ simp (lt-leb l.first.weight l.second.weight (omega (arith, c.if-first-second.false))))
